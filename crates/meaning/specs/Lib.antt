@@ -1,0 +1,4 @@
+pub mod Allocation
+pub mod Least
+pub mod Types
+pub mod Written

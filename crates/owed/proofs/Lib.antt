@@ -1,0 +1,9 @@
+pub mod Owed
+pub mod Ones
+pub mod Parts
+pub mod Bound
+pub mod Gap
+pub mod Attained
+pub mod Lowest
+pub mod Shape
+pub mod Two

@@ -1,0 +1,35 @@
+-- What document 01, "Slot times", promises of the definitions in Times. Why each holds is in proofs/Kept.antt. Assumes nothing.
+use Prim.Native.Nat.{ℕ, _+_, _-_, _*_, _/_, _≤_, _<_}
+use mathlib.Core.Bool.{true}
+use mathlib.Core.Path.{_≡_}
+use Rattle.ticks.specs.Times.{isFit, begins, Latest, said, SlotSays}
+use Rattle.ticks.specs.declared.Tick.{Tick}
+use Rattle.ticks.specs.declared.Answer.{Answer}
+
+-- 01: "the greatest n that begins at or before t: floor(((t + 1)·Q − 1)/P)"
+abbrev pub ClosedForm : Type 0
+ClosedForm = (tick : Tick) (t : ℕ) → isFit tick ≡ true → Latest tick t (((t + 1) * tick .q - 1) / tick .p)
+
+-- at most one number is the slot of a time
+abbrev pub OneSlot : Type 0
+OneSlot = (tick : Tick) (t n m : ℕ) → Latest tick t n → Latest tick t m → n ≡ m
+
+-- a time lies in its slot: at or after the slot's start, and before the next one's
+abbrev pub InItsSlot : Type 0
+InItsSlot = (tick : Tick) (t n : ℕ) → Latest tick t n → (begins tick n ≤ t) × (t < begins tick (n + 1))
+
+-- where slots are no shorter than a microsecond, the slot of a slot's start is that slot
+abbrev pub ThereAndBack : Type 0
+ThereAndBack = (tick : Tick) (n : ℕ) → isFit tick ≡ true → tick .q ≤ tick .p → Latest tick (begins tick n) n
+
+-- starts never fall
+abbrev pub NeverFalls : Type 0
+NeverFalls = (tick : Tick) (n m : ℕ) → isFit tick ≡ true → n ≤ m → begins tick n ≤ begins tick m
+
+-- two answers that say the same are the same, so the equations that `start` and `minute` are held to allow one answer
+abbrev pub SaidOnce : Type 0
+SaidOnce = (a b : Answer) → said a ≡ said b → a ≡ b
+
+-- and so does what `slot` is held to
+abbrev pub OneAnswer : Type 0
+OneAnswer = (tick : Tick) (t : ℕ) (a b : Answer) → SlotSays tick t (said a) → SlotSays tick t (said b) → a ≡ b

@@ -1,0 +1,10 @@
+pub mod Windows
+pub mod First
+pub mod Stretch
+pub mod Answers
+pub mod KeptFirst
+pub mod KeptStarts
+pub mod KeptLeast
+pub mod KeptOutside
+pub mod KeptOne
+pub mod Kept

@@ -1,0 +1,90 @@
+-- The decision on a pair of types and what it writes: document 01, "Types and what they mean", and the order of its refusals. Assumes nothing.
+use Prim.Native.Nat.{ℕ, zero, suc, _+_, _-_}
+use mathlib.Core.Bool.{Bool, true, false, cond}
+use mathlib.Core.List.{List, [], _∷_, _++_}
+use lib.Dec.{leb, eqb}
+use lib.ListN.{length, drop}
+use Rattle.meaning.specs.Allocation.{Allocation, bit}
+use Rattle.meaning.specs.Types.{wellFormed}
+use Rattle.meaning.specs.Written.{written, stretchFrom, stretchTo}
+use Rattle.meaning.specs.declared.SlotType.{SlotType}
+use Rattle.meaning.specs.declared.Kind.{Kind}
+use Rattle.types.specs.Least.{onesFrom, leastOnes, firstShort}
+use Rattle.types.specs.declared.Verdict.{Verdict}
+use Rattle.types.specs.declared.Verdict.the-variants as verdict
+use Rattle.types.specs.declared.Decision.{Decision}
+use Rattle.types.specs.declared.Decision.the-variants as decision
+
+-- 01: "Every refusal returns number and place (none for later numbers, unless said)"
+pub data Place : Type 0 where
+  none : Place
+  at : ℕ → Place
+
+-- What an answer says in document 01's own terms: the pair holds, with the least ones of any wanted window; it falls short, with that same
+-- number; it fails, with a window start, the ones there and the length of the stretch; or it is refused, with number and place.
+pub data Said : Type 0 where
+  holds : ℕ → Said
+  short : ℕ → Said
+  fails : ℕ → ℕ → ℕ → Said
+  refused : ℕ → Place → Said
+
+-- 255 is the number that stands for no place
+unfoldable pub placed : ℕ → Place
+placed p = cond (eqb p 255) none (at p)
+
+abbrev pub said : Verdict → Said
+said (verdict.Holds m) = holds m
+said (verdict.Short m) = short m
+said (verdict.Refused r p) = refused r (placed p)
+
+abbrev pub saidOf : Decision → Said
+saidOf (decision.Holds m) = holds m
+saidOf (decision.Fails s o n) = fails s o n
+saidOf (decision.Refused r p) = refused r (placed p)
+
+-- 01: "A pair decision tests giver, then wanted (4, place 0 or 1)"; without an allocation, it then holds or falls short
+unfoldable pub judged : Kind → SlotType → Kind → SlotType → Said
+judged gives giver wants wanted =
+    let least = leastOnes gives giver wants wanted in
+    cond (wellFormed giver)
+    (cond (wellFormed wanted) (cond (leb (wanted .c) least) (holds least) (short least)) (refused 4 (at 1)))
+    (refused 4 (at 0))
+
+-- the length of the stretch around the window that starts at s
+unfoldable pub stretch : SlotType → SlotType → ℕ → ℕ
+stretch giver wanted s = stretchTo (giver .t) s (wanted .t) - stretchFrom (giver .t) s
+
+-- 01: "it gives 17 only where it fails and the stretch exceeds the buffer"
+unfoldable pub failing : SlotType → SlotType → ℕ → ℕ → Said
+failing giver wanted room s =
+    cond (leb (stretch giver wanted s) room)
+    (fails s (onesFrom giver wanted s) (stretch giver wanted s))
+    (refused 17 none)
+
+-- with an allocation: the same verdict, but a pair that falls short shows the first window that does
+abbrev pub showing : Said → Said → Said
+showing (holds m) f = holds m
+showing (short m) f = f
+showing (fails s o n) f = fails s o n
+showing (refused r p) f = refused r p
+
+unfoldable pub decided : Kind → SlotType → Kind → SlotType → ℕ → Said
+decided gives giver wants wanted room =
+    showing (judged gives giver wants wanted) (failing giver wanted room (firstShort gives giver wants wanted))
+
+-- 01: "The allocation is written as bytes 0 or 1": those of the n slots from slot `from` on
+unfoldable pub bytes : Allocation → ℕ → ℕ → List ℕ
+bytes α from zero = []
+bytes α from (suc n) = bytes α from n ++ (bit (α (from + n)) ∷ [])
+
+-- 01: "Bytes beyond the stretch stay. A pair that holds writes nothing", and "Every refusal .. writes nowhere"
+abbrev pub writing : SlotType → SlotType → List ℕ → Said → List ℕ
+writing giver wanted out (holds m) = out
+writing giver wanted out (short m) = out
+writing giver wanted out (fails s o n) =
+    bytes (written (giver .c) (giver .t) s (wanted .t)) (stretchFrom (giver .t) s) n ++ drop n out
+writing giver wanted out (refused r p) = out
+
+-- the buffer after the decision
+unfoldable pub left : Kind → SlotType → Kind → SlotType → List ℕ → List ℕ
+left gives giver wants wanted out = writing giver wanted out (decided gives giver wants wanted (length out))

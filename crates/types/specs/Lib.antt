@@ -1,0 +1,3 @@
+pub mod Least
+pub mod Decision
+pub mod Promises

@@ -1,0 +1,77 @@
+-- What a kind byte and a parent byte name, one law an arm; and what a node's bytes spell. Assumes nothing.
+use Prim.Native.Nat.{ℕ, _+_, _-_, _*_, _≤_, _<_}
+use mathlib.Core.Bool.{true, false}
+use mathlib.Core.List.{List}
+use mathlib.Core.Path.{_≡_}
+use borrow.Author.Tests.{lt-ltb, le-ltb, eq-eqb, ne-eqb}
+use Rattle.meaning.specs.declared.SlotType.{SlotType}
+use Rattle.fields.specs.Fields.{byteAt, typeAt}
+use Rattle.plans.specs.declared.NodeKind.{NodeKind}
+use Rattle.plans.specs.declared.NodeKind.the-variants.{AlignedLeaf, SlidingLeaf, Host}
+use Rattle.plans.specs.declared.Parent.{Parent}
+use Rattle.plans.specs.declared.Parent.the-variants.{Supply, Node as Under}
+use Rattle.decode.specs.Positions.{nodesAt, nodeStart}
+use Rattle.decode.specs.Decode.{kindNamed, parentNamed, isNamed, parentOr, nodeOf}
+use Rattle.decode.specs.declared.Named.{Named}
+use Rattle.decode.specs.declared.Named.the-variants.{Parent as names, Nothing}
+
+module _ (b : ℕ) where
+  -- kind 0 is an aligned leaf, 1 a sliding leaf, and any other is taken for a host
+  pub kind-aligned : b ≡ 0 → AlignedLeaf ≡ kindNamed b
+  unfolding kindNamed
+  kind-aligned h = rw (eq-eqb b 0 h)
+
+  pub kind-sliding : b ≡ 1 → SlidingLeaf ≡ kindNamed b
+  unfolding kindNamed
+  kind-sliding h = rw h
+
+  pub kind-host : (b ≡ 0 → ⊥) → (b ≡ 1 → ⊥) → Host ≡ kindNamed b
+  unfolding kindNamed
+  kind-host h l = rw (ne-eqb b 0 h, ne-eqb b 1 l)
+
+  -- a parent byte below 8 names a supply, one from 128 to 191 a node, and any other nothing
+  pub names-supply : b < 8 → names (Supply b) ≡ parentNamed b
+  unfolding parentNamed
+  names-supply h = rw (lt-ltb b 8 h)
+
+  module _ (h : 8 ≤ b) where
+    pub names-no-supply : b < 128 → Nothing ≡ parentNamed b
+    unfolding parentNamed
+    names-no-supply l = rw (le-ltb b 8 h, lt-ltb b 128 l)
+
+    module _ (l : 128 ≤ b) where
+      pub names-node : b < 192 → names (Under (b - 128)) ≡ parentNamed b
+      unfolding parentNamed
+      names-node m = rw (le-ltb b 8 h, le-ltb b 128 l, lt-ltb b 192 m)
+
+      pub names-no-node : 192 ≤ b → Nothing ≡ parentNamed b
+      unfolding parentNamed
+      names-no-node m = rw (le-ltb b 8 h, le-ltb b 128 l, le-ltb b 192 m)
+
+-- a byte that names a parent is named, and names it; one that names nothing is not, and stands for supply 0
+module _ (n : Named) where
+  module _ (x : Parent) (e : n ≡ names x) where
+    pub is-named : true ≡ isNamed n
+    unfolding isNamed
+    is-named = rw e
+
+    pub parent-is : x ≡ parentOr n
+    unfolding parentOr
+    parent-is = rw e
+
+  module _ (e : n ≡ Nothing) where
+    pub is-not-named : false ≡ isNamed n
+    unfolding isNamed
+    is-not-named = rw e
+
+    pub parent-is-zero : Supply 0 ≡ parentOr n
+    unfolding parentOr
+    parent-is-zero = rw e
+
+-- a node, whose section begins at k, is what its bytes spell
+pub node-read : (s : List ℕ) (i k b p : ℕ) (kind : NodeKind) (n : Named) (parent : Parent) (wanted served : SlotType) → k ≡ nodesAt s →
+    b ≡ byteAt s (k + 1 + 10 * i) → kind ≡ kindNamed b → p ≡ byteAt s (k + 1 + 10 * i + 1) → n ≡ parentNamed p → parent ≡ parentOr n →
+    wanted ≡ typeAt s (k + 1 + 10 * i + 2) → served ≡ typeAt s (k + 1 + 10 * i + 6) →
+    record { kind = kind; parent = parent; wanted = wanted; served = served } ≡ nodeOf s i
+unfolding nodeOf nodeStart
+node-read s i k b p kind n parent wanted served h a₁ a₂ b₁ b₂ b₃ w v = cc

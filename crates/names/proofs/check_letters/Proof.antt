@@ -1,0 +1,69 @@
+-- `names::check_letters` meets its contract. The invariant: the bytes passed are accepted. Assumes nothing.
+use borrow.Author.Needs.{needs}
+use Prim.Native.Nat.{_-_, _≤_}
+use mathlib.Core.Path.{_≡_}
+use Rattle.answers.specs.Answers.{each}
+use Rattle.answers.specs.declared.Answer.the-variants.{Accepted}
+use Rattle.answers.proofs.Laws.{each-none, each-more, each-stop, each-done}
+use Rattle.names.specs.Names.{checkLetter}
+use Rattle.names.proofs.check_letters.Statement.{statement}
+use Rattle.names.proofs.check_letters.Tie as tie
+
+abbrev Inv-loop : tie.InvT-loop
+Inv-loop s k n j₀ j = (j ≤ n) × (each (checkLetter s k) j ≡ Accepted)
+
+abbrev μ-loop : tie.MeasureT-loop
+μ-loop s k n j₀ j = n - j
+
+loop-holds : tie.Need-loop-holds Inv-loop μ-loop
+loop-holds c = search (needs, each-none)
+
+add-check-letter : tie.Need-add-check-letter Inv-loop μ-loop
+add-check-letter c = search needs
+
+add-check-letter-2 : tie.Need-add-check-letter-2 Inv-loop μ-loop
+add-check-letter-2 c = search needs
+
+check-letter-requires : tie.Need-check-letter-requires Inv-loop μ-loop
+check-letter-requires c κs = search needs
+
+enum-told : tie.Need-enum-told Inv-loop μ-loop
+enum-told c = search needs
+
+enum-told-2 : tie.Need-enum-told-2 Inv-loop μ-loop
+enum-told-2 c = search needs
+
+returns : tie.Need-returns Inv-loop μ-loop
+unfolding checkLetter
+returns c = search each-stop
+
+add-j : tie.Need-add-j Inv-loop μ-loop
+add-j c = search needs
+
+loop-less : tie.Need-loop-less Inv-loop μ-loop
+loop-less c = search needs
+
+loop-again : tie.Need-loop-again Inv-loop μ-loop
+unfolding checkLetter
+loop-again c = search (needs, each-more)
+
+returns-2 : tie.Need-returns-2 Inv-loop μ-loop
+returns-2 c = search each-done
+
+pub check-letters-spec : {M : Type 1} → statement M
+check-letters-spec =
+    tie.close
+    (tie.spec
+    Inv-loop
+    μ-loop
+    loop-holds
+    add-check-letter
+    add-check-letter-2
+    check-letter-requires
+    enum-told
+    enum-told-2
+    returns
+    add-j
+    loop-less
+    loop-again
+    returns-2)

@@ -1,0 +1,24 @@
+-- What is promised of soundness. Why each holds is in proofs/. Assumes nothing.
+use Prim.Native.Nat.{ℕ, _<_}
+use mathlib.Core.Bool.{true}
+use mathlib.Core.Logic.{_↔_}
+use mathlib.Core.Path.{_≡_}
+use Rattle.plans.specs.Plan.{supplyAt, nodeAt}
+use Rattle.plans.specs.Sound.{Sound, sound}
+use Rattle.plans.specs.declared.Plan.{Plan}
+
+-- The test says yes exactly when the value keeps 2 to 7.
+abbrev pub SoundExactly : Type 0
+SoundExactly = (plan : Plan) → (sound plan ≡ true) ↔ Sound plan
+
+-- two values that agree in everything but unused entries
+pub record Agree (a b : Plan) : Type 0 where
+  pub tick : a .tick ≡ b .tick
+  pub cores : a .cores ≡ b .cores
+  pub size : a .size ≡ b .size
+  pub supplies : (s : ℕ) → s < a .cores → supplyAt a s ≡ supplyAt b s
+  pub nodes : (i : ℕ) → i < a .size → nodeAt a i ≡ nodeAt b i
+
+-- 01: "unused entries of a plan value are zeros and ignored"
+abbrev pub UnusedIgnored : Type 0
+UnusedIgnored = (a b : Plan) → Agree a b → Sound a → Sound b

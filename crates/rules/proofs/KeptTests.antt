@@ -1,0 +1,111 @@
+-- Each test of rules 11 to 14 decides between what the rule asks there and a breach of it. Assumes nothing.
+use Prim.Native.Nat.{ℕ, suc, _%_, _≤_, _<_}
+use mathlib.Core.Bool.{Bool, true, false, not, _||_, true≢false, false≢true}
+use mathlib.Core.Path.{_≡_, refl, ap, sym, _∙_}
+use lib.Dec.{leb, eqb}
+use native.Mathlib.Omega.{arith}
+use Rattle.meaning.specs.declared.Kind.the-variants.{Aligned}
+use Rattle.types.specs.Decision.{Said, holds, short, fails, refused, judged}
+use Rattle.types.proofs.Kept.{holding as types-holding, exact as types-exact}
+use Rattle.answers.specs.Answers.{test}
+use Rattle.answers.specs.declared.Answer.{Answer}
+use Rattle.answers.specs.declared.Answer.the-variants.{Refused}
+use Rattle.answers.proofs.Laws.{test-false, test-refused}
+use Rattle.plans.specs.Plan.{kindOf, wantedOf, servedOf, wantedAs, ownType, isChild}
+use Rattle.plans.specs.Sound.{Sound, all}
+use Rattle.plans.specs.declared.Parent.{Parent}
+use Rattle.plans.specs.declared.Plan.{Plan}
+use Rattle.rules.specs.Fit.{Child, Rule11, Rule12, Rule13, loadTo, side}
+use Rattle.rules.specs.Broken.{Breach, eleven, twelve, thirteen, fourteen, number, place, Broken}
+use Rattle.rules.specs.Check.{holding, alike}
+use Rattle.rules.proofs.KeptDecides.{Decides, decides-as, equal-decides, most-decides, either-decides, all-decides, child-decides}
+
+-- what the rule of a breach asks where the breach would be
+abbrev pub Kept : Plan → Breach → Type 0
+Kept plan (eleven i) = Rule11 plan i
+Kept plan (twelve x i) = Child plan x i → Rule12 plan x i
+Kept plan (thirteen x i) = Child plan x i → (j : ℕ) → j < i → Child plan x j → Rule13 plan i j
+Kept plan (fourteen x i) = Child plan x i → loadTo plan x (suc i) ≤ side plan x
+
+-- the test for a breach
+abbrev pub tests : Plan → Breach → Bool
+tests plan (eleven i) = holding (judged Aligned (servedOf plan i) (wantedAs (kindOf plan i)) (wantedOf plan i))
+tests plan (twelve x i) = not (isChild plan x i) || eqb (servedOf plan i .t % ownType plan x .t) 0
+tests plan (thirteen x i) = not (isChild plan x i) || all (alike plan x i) i
+tests plan (fourteen x i) = not (isChild plan x i) || leb (loadTo plan x (suc i)) (side plan x)
+
+-- the answer of that test
+abbrev pub tested : Plan → Breach → Answer
+tested plan b = test (tests plan b) (number b) (place b)
+
+-- what holds by its test holds
+holding-holds : (s : Said) → holding s ≡ true → (m : ℕ) × (s ≡ holds m)
+unfolding holding
+holding-holds (holds m) e = (m, refl)
+holding-holds (short m) e = absurd (false≢true e)
+holding-holds (fails s o n) e = absurd (false≢true e)
+holding-holds (refused r p) e = absurd (false≢true e)
+
+module _ (plan : Plan) where
+  -- a breach stands at one of the plan's nodes
+  pub broken-there : (b : Breach) → Broken plan b → place b < plan .size
+  broken-there (eleven i) h = h .0
+  broken-there (twelve x i) h = h .0 .there
+  broken-there (thirteen x i) h = h .0 .there
+  broken-there (fourteen x i) h = h .0 .there
+
+  -- rule 13 between a node and a child of x
+  alike-decides : (x : Parent) (i j : ℕ) → j < plan .size →
+      Decides (alike plan x i j) (Child plan x j → Rule13 plan i j) (Child plan x j × (Rule13 plan i j → ⊥))
+  unfolding alike
+  alike-decides x i j l = child-decides plan _ x j l (either-decides _ _ (equal-decides _ 0) (equal-decides _ 0))
+
+  module _ (sound : Sound plan) where
+    -- rule 11 at a node
+    eleven-decides : (i : ℕ) → i < plan .size → Decides (tests plan (eleven i)) (Rule11 plan i) (Rule11 plan i → ⊥)
+    unfolding holding
+    eleven-decides i l =
+        record {
+          right = λ e. let (m, is) = holding-holds _ e in types-holding _ _ _ _ m is .0;
+          wrong = λ e stands. let (m, is) = types-exact _ _ _ _ (sound .served i l) (sound .wanted i l) .0 stands in true≢false (sym (ap holding is) ∙ e);
+          apart = λ g n. n g;
+        }
+
+    -- the test for a breach decides between the rule kept and the breach
+    tests-decide : (b : Breach) → place b < plan .size → Decides (tests plan b) (Kept plan b) (Broken plan b)
+    tests-decide (eleven i) l = decides-as (λ n. (l, n)) (λ b. b .1) (eleven-decides i l)
+    tests-decide (twelve x i) l = child-decides plan _ x i l (equal-decides _ 0)
+    tests-decide (thirteen x i) l =
+        decides-as
+        (λ b. (b .0, (b .1 .0, b .1 .1, b .1 .2 .0, b .1 .2 .1)))
+        (λ b. (b .0, (b .1 .0, b .1 .1, (b .1 .2, b .1 .3))))
+        (child-decides plan _ x i l (all-decides (alike plan x i) i (λ j b. alike-decides x i j (omega arith))))
+    tests-decide (fourteen x i) l = child-decides plan _ x i l (most-decides _ _)
+
+    -- a rule that is kept somewhere has no breach there
+    pub kept-unbroken : (b : Breach) → (place b < plan .size → Kept plan b) → Broken plan b → ⊥
+    kept-unbroken b kept is =
+        let l = broken-there b is in
+        tests-decide b l .apart (kept l) is
+
+    -- and one that has no breach somewhere is kept there
+    pub unbroken-kept : (b : Breach) → place b < plan .size → (Broken plan b → ⊥) → Kept plan b
+    unbroken-kept b l none = go (tests plan b) (tests-decide b l)
+      where
+        go : (t : Bool) → Decides t (Kept plan b) (Broken plan b) → Kept plan b
+        go true d = d .right refl
+        go false d = absurd (none (d .wrong refl))
+
+    -- the test for a breach that is there refuses it, with its number and place
+    pub broken-tested : (b : Breach) → Broken plan b → tested plan b ≡ Refused (number b) (place b)
+    broken-tested b is = go (tests plan b) (tests-decide b (broken-there b is))
+      where
+        go : (t : Bool) → Decides t (Kept plan b) (Broken plan b) → test t (number b) (place b) ≡ Refused (number b) (place b)
+        go true d = absurd (d .apart (d .right refl) is)
+        go false d = test-false false _ _ refl
+
+    -- and what a test refuses is there
+    pub tested-broken : (b : Breach) (r k : ℕ) → place b < plan .size → tested plan b ≡ Refused r k → Broken plan b × (number b ≡ r) × (place b ≡ k)
+    tested-broken b r k l e =
+        let (wrong, is, here) = test-refused (tests plan b) (number b) (place b) r k e in
+        (tests-decide b l .wrong wrong, is, here)

@@ -1,0 +1,12 @@
+pub mod Formed
+pub mod Eleven
+pub mod Children
+pub mod Sums
+pub mod Order
+pub mod KeptOrder
+pub mod KeptDecides
+pub mod KeptTests
+pub mod KeptRanks
+pub mod KeptFit
+pub mod KeptAlike
+pub mod Kept

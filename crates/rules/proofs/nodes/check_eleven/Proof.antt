@@ -1,0 +1,59 @@
+-- `rules::nodes::check_eleven` meets its contract. The invariant: the nodes passed are accepted. Assumes nothing.
+use borrow.Author.Needs.{needs}
+use Prim.Native.Nat.{_-_, _≤_}
+use mathlib.Core.Path.{_≡_}
+use Rattle.answers.specs.Answers.{each}
+use Rattle.answers.specs.declared.Answer.the-variants.{Accepted}
+use Rattle.answers.proofs.Laws.{each-none, each-more, each-stop, each-done}
+use Rattle.rules.specs.Check.{elevenAt}
+use Rattle.rules.proofs.nodes.check_eleven.Statement.{statement}
+use Rattle.rules.proofs.nodes.check_eleven.Tie as tie
+
+abbrev Inv-loop : tie.InvT-loop
+Inv-loop plan size i₀ i = (i ≤ size) × (each (elevenAt plan) i ≡ Accepted)
+
+abbrev μ-loop : tie.MeasureT-loop
+μ-loop plan size i₀ i = size - i
+
+loop-holds : tie.Need-loop-holds Inv-loop μ-loop
+loop-holds c = search (needs, each-none)
+
+eleven-at-requires : tie.Need-eleven-at-requires Inv-loop μ-loop
+eleven-at-requires c κs = search needs
+
+enum-told : tie.Need-enum-told Inv-loop μ-loop
+enum-told c = search needs
+
+enum-told-2 : tie.Need-enum-told-2 Inv-loop μ-loop
+enum-told-2 c = search needs
+
+returns : tie.Need-returns Inv-loop μ-loop
+returns c = search each-stop
+
+add-i : tie.Need-add-i Inv-loop μ-loop
+add-i c = search needs
+
+loop-less : tie.Need-loop-less Inv-loop μ-loop
+loop-less c = search needs
+
+loop-again : tie.Need-loop-again Inv-loop μ-loop
+loop-again c = search (needs, each-more)
+
+returns-2 : tie.Need-returns-2 Inv-loop μ-loop
+returns-2 c = search each-done
+
+pub check-eleven-spec : {M : Type 1} → statement M
+check-eleven-spec =
+    tie.close
+    (tie.spec
+    Inv-loop
+    μ-loop
+    loop-holds
+    eleven-at-requires
+    enum-told
+    enum-told-2
+    returns
+    add-i
+    loop-less
+    loop-again
+    returns-2)

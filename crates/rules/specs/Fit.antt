@@ -1,0 +1,67 @@
+-- What it is for a plan value to fit: document 01, "Rules beyond the bytes", on top of soundness (2 to 7). Assumes nothing.
+use Prim.Native.Nat.{ℕ, zero, suc, _+_, _*_, _/_, _%_, _≤_, _<_, max}
+use mathlib.Core.Bool.{cond}
+use mathlib.Core.Logic.{_⊎_}
+use mathlib.Core.Path.{_≡_}
+use Rattle.meaning.specs.Types.{StandsIn}
+use Rattle.meaning.specs.declared.Kind.{Kind}
+use Rattle.meaning.specs.declared.Kind.the-variants.{Aligned}
+use Rattle.plans.specs.Plan.{parentOf, kindOf, wantedOf, servedOf, wantedAs, ownType, isChild}
+use Rattle.plans.specs.Sound.{Sound}
+use Rattle.plans.specs.declared.Parent.{Parent}
+use Rattle.plans.specs.declared.Plan.{Plan}
+
+-- f 0 + .. + f (n − 1), and the largest of f 0, .., f (n − 1)
+unfoldable pub sumTo : (ℕ → ℕ) → ℕ → ℕ
+sumTo f zero = 0
+sumTo f (suc n) = sumTo f n + f n
+
+unfoldable pub mostTo : (ℕ → ℕ) → ℕ → ℕ
+mostTo f zero = 0
+mostTo f (suc n) = max (mostTo f n) (f n)
+
+-- a node's served period where it is a child of x, and 0 elsewhere
+unfoldable pub childPeriod : Plan → Parent → ℕ → ℕ
+childPeriod plan x i = cond (isChild plan x i) (servedOf plan i .t) 0
+
+-- 01: "For each parent, M is the largest served period among its children"
+unfoldable pub longest : Plan → Parent → ℕ
+longest plan x = mostTo (childPeriod plan x) (plan .size)
+
+-- what a child asks for in M slots, C·(M/T), and 0 elsewhere
+unfoldable pub load : Plan → Parent → ℕ → ℕ → ℕ
+load plan x m i = cond (isChild plan x i) (servedOf plan i .c * (m / servedOf plan i .t)) 0
+
+-- the sum over the children among the first k nodes
+unfoldable pub loadTo : Plan → Parent → ℕ → ℕ
+loadTo plan x k = sumTo (load plan x (longest plan x)) k
+
+-- the parent's own C·(M/T)
+unfoldable pub side : Plan → Parent → ℕ
+side plan x = ownType plan x .c * (longest plan x / ownType plan x .t)
+
+-- node i is there, and a child of x
+pub record Child (plan : Plan) (x : Parent) (i : ℕ) : Type 0 where
+  pub there : i < plan .size
+  pub under : parentOf plan i ≡ x
+
+-- 01, rules 11 to 14
+abbrev pub Rule11 : Plan → ℕ → Type 0
+Rule11 plan i = StandsIn Aligned (servedOf plan i) (wantedAs (kindOf plan i)) (wantedOf plan i)
+
+abbrev pub Rule12 : Plan → Parent → ℕ → Type 0
+Rule12 plan x i = servedOf plan i .t % ownType plan x .t ≡ 0
+
+abbrev pub Rule13 : Plan → ℕ → ℕ → Type 0
+Rule13 plan i j = (servedOf plan i .t % servedOf plan j .t ≡ 0) ⊎ (servedOf plan j .t % servedOf plan i .t ≡ 0)
+
+abbrev pub Rule14 : Plan → Parent → Type 0
+Rule14 plan x = loadTo plan x (plan .size) ≤ side plan x
+
+-- a plan value that keeps 2 to 7 and 11 to 14
+pub record Fit (plan : Plan) : Type 0 where
+  pub sound : Sound plan
+  pub rule11 : (i : ℕ) → i < plan .size → Rule11 plan i
+  pub rule12 : (x : Parent) (i : ℕ) → Child plan x i → Rule12 plan x i
+  pub rule13 : (x : Parent) (i j : ℕ) → Child plan x i → Child plan x j → Rule13 plan i j
+  pub rule14 : (x : Parent) → Rule14 plan x

@@ -1,0 +1,4 @@
+pub mod Fit
+pub mod Broken
+pub mod Check
+pub mod Promises

@@ -1,0 +1,212 @@
+-- Laws of the choice: what a choice says of the node that it names, that nobody is chosen exactly when nobody may be taken, and that only the
+-- counts of the parent's own children matter. Assumes nothing.
+use Prim.Native.Nat.{ℕ, zero, suc, _≤_, _<_}
+use mathlib.Core.Bool.{Bool, true, false, not, cond, _&&_, true≢false}
+use mathlib.Core.List.{List}
+use mathlib.Core.Logic.{_⊎_, inl, inr}
+use mathlib.Core.Path.{_≡_, refl, sym, ap, _∙_}
+use lib.Dec.{ltb}
+use lib.ListN.{getD}
+use borrow.Author.Count.{below-more}
+use borrow.Author.Tests.{lt-ltb, ltb-true, ltb-false, not-true}
+use native.Mathlib.Nat.{le-refl, eq-or-lt-of-le}
+use native.Mathlib.Omega.{arith}
+use Rattle.plans.proofs.All.{left-true, right-true}
+use Rattle.plans.proofs.Entries.{same-self, same-equal}
+use Rattle.plans.specs.Plan.{same}
+use Rattle.plans.specs.declared.Parent.{Parent}
+use Rattle.dispatch.specs.View.{View, bitOf}
+use Rattle.dispatch.specs.Choice.{eligible, prefer, consider, chooseTo, choose, Chosen}
+use Rattle.dispatch.specs.declared.Choice.{Choice}
+use Rattle.dispatch.specs.declared.Choice.the-variants.{Nobody, Child}
+
+-- a node i comes before a node j: it has the smaller period, or the same and no higher number
+abbrev Before : View → ℕ → ℕ → Type 0
+Before v i j = (v .t i < v .t j) ⊎ ((v .t i ≡ v .t j) × (i ≤ j))
+
+-- of two nodes that come before each other there is one
+before-both : (v : View) (i j : ℕ) → Before v i j → Before v j i → i ≡ j
+before-both v i j (inl a) (inl b) = absurd (omega arith)
+before-both v i j (inl a) (inr b) = absurd (omega arith)
+before-both v i j (inr a) (inl b) = absurd (omega arith)
+before-both v i j (inr a) (inr b) = omega arith
+
+-- an earlier node with a period no longer than another's comes before it
+before-later : (v : View) (i k : ℕ) → v .t i ≤ v .t k → i ≤ k → Before v i k
+before-later v i k h l = go (eq-or-lt-of-le h)
+  where
+    go : (v .t i ≡ v .t k) ⊎ (v .t i < v .t k) → Before v i k
+    go (inl e) = inr (e, l)
+    go (inr m) = inl m
+
+-- a node with a smaller period than one that comes before j has a smaller one than j
+before-period : (v : View) (i j k : ℕ) → Before v i j → v .t k < v .t i → v .t k < v .t j
+before-period v i j k (inl a) l = omega arith
+before-period v i j k (inr a) l = omega arith
+
+-- what holds below k, and of k, holds below k + 1
+below-suc : (P : ℕ → Type 0) (k : ℕ) → ((j : ℕ) → j < k → P j) → P k → (j : ℕ) → j < suc k → P j
+below-suc P k h at j l = below-more P k h at j (omega arith)
+
+module _ (v : View) (left : List ℕ) (declines : ℕ) (x : Parent) where
+  -- node i comes before node j, if j may be taken
+  abbrev First : ℕ → ℕ → Type 0
+  First i j = eligible v left declines x j ≡ true → Before v i j
+
+  -- node i is the one to take among the first k nodes
+  record ChosenTo (k i : ℕ) : Type 0 where
+    there : i < k
+    may : eligible v left declines x i ≡ true
+    before : (j : ℕ) → j < k → First i j
+
+  -- what a choice among the first k nodes says
+  data Told (k : ℕ) : Choice → Type 0 where
+    none : ((j : ℕ) → j < k → eligible v left declines x j ≡ false) → Told k Nobody
+    one : (i : ℕ) → ChosenTo k i → Told k (Child i)
+
+  module _ (k : ℕ) where
+    -- node k is taken where it may be and comes before the others that may
+    newcomer : eligible v left declines x k ≡ true → ((j : ℕ) → j < k → First k j) → Told (suc k) (Child k)
+    newcomer e before = one k (record { there = omega arith; may = e; before = below-suc (First k) k before (λ _. inr (refl, omega arith)) })
+
+    -- the one to take stays so where it comes before node k
+    incumbent : (i : ℕ) → ChosenTo k i → First i k → Told (suc k) (Child i)
+    incumbent i c here = one i (record { there = omega (arith, c .there); may = c .may; before = below-suc (First i) k (c .before) here })
+
+    -- so the smaller period decides between the two
+    between : eligible v left declines x k ≡ true → (i : ℕ) → ChosenTo k i → (b : Bool) → ltb (v .t k) (v .t i) ≡ b →
+        Told (suc k) (cond b (Child k) (Child i))
+    between e i c true h = newcomer e (λ j l m. inl (before-period v i j k (c .before j l m) (ltb-true (v .t k) (v .t i) h)))
+    between e i c false h = incumbent i c (λ _. before-later v i k (ltb-false (v .t k) (v .t i) h) (omega (arith, c .there)))
+
+    -- with node k considered, the choice among the first k + 1 nodes
+    told-more : (best : Choice) → Told k best → Told (suc k) (consider v left declines x best k)
+    unfolding consider prefer
+    told-more best t = go (eligible v left declines x k) refl best t
+      where
+        go : (b : Bool) → eligible v left declines x k ≡ b → (best : Choice) → Told k best → Told (suc k) (cond b (prefer v best k) best)
+        go false e best (none h) = none (below-suc (λ j. eligible v left declines x j ≡ false) k h e)
+        go false e best (one i c) = incumbent i c (λ m. absurd (true≢false (sym m ∙ e)))
+        go true e best (none h) = newcomer e (λ j l m. absurd (true≢false (sym m ∙ h j l)))
+        go true e best (one i c) = between e i c (ltb (v .t k) (v .t i)) refl
+
+  -- the choice among the first k nodes says so
+  told : (k : ℕ) → Told k (chooseTo v left declines x k)
+  unfolding chooseTo
+  told zero = none (λ j l. absurd (omega arith))
+  told (suc k) = told-more k (chooseTo v left declines x k) (told k)
+
+  -- a told child is the one to take
+  told-child : (k : ℕ) {i : ℕ} → Told k (Child i) → ChosenTo k i
+  told-child k (one i c) = c
+
+  -- where nobody is told, nobody may be taken
+  told-nobody : (k : ℕ) → Told k Nobody → (j : ℕ) → j < k → eligible v left declines x j ≡ false
+  told-nobody k (none h) = h
+
+  -- the choice is what document 01's sentence says
+  pub choice-chosen : (i : ℕ) → choose v left declines x ≡ Child i → Chosen v left declines x i
+  unfolding choose
+  choice-chosen i e =
+      let c = told-child (v .size) (rw e at (told (v .size))) in
+      record { there = c .there; may = c .may; before = c .before }
+
+  -- where nobody is chosen, nobody may be taken
+  pub choice-none : choose v left declines x ≡ Nobody → (j : ℕ) → j < v .size → eligible v left declines x j ≡ false
+  unfolding choose
+  choice-none e = told-nobody (v .size) (rw e at (told (v .size)))
+
+  -- what the sentence names is the choice
+  pub chosen-choice : (i : ℕ) → Chosen v left declines x i → choose v left declines x ≡ Child i
+  chosen-choice i c = go (choose v left declines x) refl
+    where
+      go : (w : Choice) → choose v left declines x ≡ w → w ≡ Child i
+      go Nobody e = absurd (true≢false (sym (c .may) ∙ choice-none e i (c .there)))
+      go (Child j) e =
+          let d = choice-chosen j e in
+          ap Child (before-both v j i (d .before i (c .there) (c .may)) (c .before j (d .there) (d .may)))
+
+  -- where nobody may be taken, nobody is chosen
+  pub none-choice : ((j : ℕ) → j < v .size → eligible v left declines x j ≡ false) → choose v left declines x ≡ Nobody
+  none-choice h = go (choose v left declines x) refl
+    where
+      go : (w : Choice) → choose v left declines x ≡ w → w ≡ Nobody
+      go Nobody e = refl
+      go (Child j) e = let d = choice-chosen j e in absurd (true≢false (sym (d .may) ∙ h j (d .there)))
+
+  -- where somebody may be taken, somebody is chosen
+  pub some-choice : (i : ℕ) → i < v .size → eligible v left declines x i ≡ true → (j : ℕ) × (choose v left declines x ≡ Child j)
+  some-choice i l may = go (choose v left declines x) refl
+    where
+      go : (w : Choice) → choose v left declines x ≡ w → (j : ℕ) × (choose v left declines x ≡ Child j)
+      go Nobody e = absurd (true≢false (sym may ∙ choice-none e i l))
+      go (Child j) e = (j, e)
+
+  -- a child of x with slots left may be taken, if it is no leaf that declines
+  pub eligible-child : (i : ℕ) → v .parent i ≡ x → 0 < getD left i 0 → (v .leaf i && bitOf declines i) ≡ false → eligible v left declines x i ≡ true
+  unfolding eligible
+  eligible-child i up some willing = rw (same-self (v .parent i) x up, lt-ltb 0 (getD left i 0) some, willing)
+
+  module _ (i : ℕ) (may : eligible v left declines x i ≡ true) where
+    -- who may be taken under x is a child of x
+    pub eligible-under : v .parent i ≡ x
+    unfolding eligible
+    eligible-under = same-equal (v .parent i) x (left-true (same (v .parent i) x) _ may)
+
+    -- has slots left
+    pub eligible-left : 0 < getD left i 0
+    unfolding eligible
+    eligible-left = ltb-true 0 (getD left i 0) (left-true (ltb 0 (getD left i 0)) _ (right-true (same (v .parent i) x) _ may))
+
+    -- and does not decline, if it is a leaf
+    pub eligible-willing : v .leaf i ≡ true → bitOf declines i ≡ false
+    unfolding eligible
+    eligible-willing leaf =
+        let h = right-true (ltb 0 (getD left i 0)) _ (right-true (same (v .parent i) x) _ may) in
+        rw leaf at (not-true (v .leaf i && bitOf declines i) h)
+
+  module _ (i : ℕ) (e : choose v left declines x ≡ Child i) where
+    -- the chosen node is there
+    pub choice-below : i < v .size
+    choice-below = choice-chosen i e .there
+
+    -- it is a child of x
+    pub choice-under : v .parent i ≡ x
+    choice-under = eligible-under i (choice-chosen i e .may)
+
+    -- with slots left
+    pub choice-left : 0 < getD left i 0
+    choice-left = eligible-left i (choice-chosen i e .may)
+
+    -- that does not decline, if it is a leaf
+    pub choice-willing : v .leaf i ≡ true → bitOf declines i ≡ false
+    choice-willing = eligible-willing i (choice-chosen i e .may)
+
+    -- and no other that may be taken has a smaller period, or the same and a lower number
+    pub choice-first : (j : ℕ) → j < v .size → eligible v left declines x j ≡ true → (v .t i < v .t j) ⊎ ((v .t i ≡ v .t j) × (i ≤ j))
+    choice-first = choice-chosen i e .before
+
+module _ (v : View) (left other : List ℕ) (declines : ℕ) (x : Parent)
+    (agree : (i : ℕ) → i < v .size → v .parent i ≡ x → getD left i 0 ≡ getD other i 0) where
+  -- whether a node may be taken under x is told by its own count, where it is a child of x
+  eligible-local : (i : ℕ) → i < v .size → eligible v left declines x i ≡ eligible v other declines x i
+  unfolding eligible
+  eligible-local i l = go (same (v .parent i) x) refl
+    where
+      rest : List ℕ → Bool
+      rest counts = ltb 0 (getD counts i 0) && not (v .leaf i && bitOf declines i)
+
+      go : (b : Bool) → same (v .parent i) x ≡ b → (b && rest left) ≡ (b && rest other)
+      go true e = rw (agree i l (same-equal (v .parent i) x e))
+      go false e = refl
+
+  -- so among the first k nodes only the counts of x's own children matter
+  choice-to-local : (k : ℕ) → k ≤ v .size → chooseTo v left declines x k ≡ chooseTo v other declines x k
+  unfolding chooseTo consider
+  choice-to-local zero l = refl
+  choice-to-local (suc k) l = rw (choice-to-local k (omega arith), eligible-local k l)
+
+  -- two counts that agree on the children of x give the same choice
+  pub choice-local : choose v left declines x ≡ choose v other declines x
+  unfolding choose
+  choice-local = choice-to-local (v .size) (le-refl (v .size))

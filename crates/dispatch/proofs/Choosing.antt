@@ -1,0 +1,106 @@
+-- What the calls that choose among a parent's children answer: one law a return, and the laws of the loop over the nodes. Assumes nothing.
+use Prim.Native.Nat.{ℕ, _+_, _/_, _^_, _≤_, _<_}
+use mathlib.Core.Bool.{Bool, true, false, not}
+use mathlib.Core.List.{List}
+use mathlib.Core.Path.{_≡_, refl, sym, ap, _∙_}
+use lib.Bits.{bitAnd, and-mask}
+use lib.Dec.{eqb}
+use lib.ListN.{getD}
+use borrow.Author.Tests.{lt-ltb, le-ltb}
+use native.Mathlib.Nat.{le-antisymm}
+use native.Mathlib.Numerals.{add-one}
+use native.Mathlib.Omega.{arith}
+use Rattle.plans.specs.Plan.{nodeAt, parentOf, same, isChild, isHost}
+use Rattle.plans.specs.declared.Parent.{Parent}
+use Rattle.plans.specs.declared.Node.{Node}
+use Rattle.plans.specs.declared.Plan.{Plan}
+use Rattle.dispatch.specs.View.{View, bitOf, isLeaf, servedT, viewOf}
+use Rattle.dispatch.specs.Choice.{eligible, prefer, consider, chooseTo, choose}
+use Rattle.dispatch.specs.declared.Choice.{Choice}
+use Rattle.dispatch.specs.declared.Choice.the-variants.{Nobody, Child}
+
+-- a shift and a mask read a bit
+pub bit-set : (w i : ℕ) → eqb (bitAnd (w / 2 ^ i) 1) 1 ≡ bitOf w i
+unfolding bitOf
+bit-set w i = ap (λ x. eqb x 1) (and-mask (w / 2 ^ i) 1)
+
+-- a node that is read has its served period
+pub period-read : (plan : Plan) (i : ℕ) (n : Node) → n ≡ nodeAt plan i → n .served .t ≡ servedT plan i
+unfolding servedT
+period-read plan i n e = ap (λ m. m .served .t) e
+
+-- Whether node i may be taken under x. One that is no child of x may not:
+module _ (plan : Plan) (left : List ℕ) (declines : ℕ) (x : Parent) (i : ℕ) (a : Bool) (child : a ≡ isChild plan x i) where
+  pub stranger-passed : a ≡ false → false ≡ eligible (viewOf plan) left declines x i
+  unfolding eligible isChild
+  stranger-passed h =
+      let is : same (parentOf plan i) x ≡ false = sym child ∙ h in
+      rw is
+
+  module _ (h : a ≡ true) where
+    -- a child with no slots left may not
+    pub spent-passed : getD left i 0 ≡ 0 → false ≡ eligible (viewOf plan) left declines x i
+    unfolding eligible isChild
+    spent-passed none =
+        let is : same (parentOf plan i) x ≡ true = sym child ∙ h in
+        rw (is, le-ltb 0 (getD left i 0) (omega arith))
+
+    module _ (some : getD left i 0 ≡ 0 → ⊥) (b : Bool) (host : b ≡ isHost plan i) where
+      -- a host with slots left may
+      pub host-taken : b ≡ true → true ≡ eligible (viewOf plan) left declines x i
+      unfolding eligible isChild isLeaf
+      host-taken l =
+          let is : same (parentOf plan i) x ≡ true = sym child ∙ h in
+          rw (is, lt-ltb 0 (getD left i 0) (omega arith), sym host ∙ l)
+
+      -- and a leaf with slots left may unless it declines
+      pub leaf-willing : b ≡ false → (d : Bool) → d ≡ bitOf declines i → not d ≡ eligible (viewOf plan) left declines x i
+      unfolding eligible isChild isLeaf
+      leaf-willing l d declined =
+          let is : same (parentOf plan i) x ≡ true = sym child ∙ h in
+          rw (is, lt-ltb 0 (getD left i 0) (omega arith), sym host ∙ l, declined)
+
+module _ (plan : Plan) (best : Choice) (i : ℕ) where
+  -- where nobody was chosen before it, a node is preferred
+  pub first-preferred : best ≡ Nobody → Child i ≡ prefer (viewOf plan) best i
+  unfolding prefer
+  first-preferred e = rw e
+
+  module _ (j a b : ℕ) (e : best ≡ Child j) (here : a ≡ servedT plan i) (there : b ≡ servedT plan j) where
+    -- and so is one with a smaller period than the choice before it
+    pub shorter-preferred : a < b → Child i ≡ prefer (viewOf plan) best i
+    unfolding prefer
+    shorter-preferred l = rw (e, lt-ltb (servedT plan i) (servedT plan j) (omega arith))
+
+    -- one with the same or a longer period is not
+    pub earlier-kept : b ≤ a → Child j ≡ prefer (viewOf plan) best i
+    unfolding prefer
+    earlier-kept l = rw (e, le-ltb (servedT plan i) (servedT plan j) (omega arith))
+
+module _ (v : View) (left : List ℕ) (declines : ℕ) (x : Parent) where
+  module _ (best : Choice) (i : ℕ) (b : Bool) (may : b ≡ eligible v left declines x i) where
+    -- a node that may be taken is held against the choice before it
+    pub considered-taken : b ≡ true → (r : Choice) → r ≡ prefer v best i → r ≡ consider v left declines x best i
+    unfolding consider
+    considered-taken h r e = rw (sym may ∙ h, e)
+
+    -- and any other is passed over
+    pub considered-passed : b ≡ false → best ≡ consider v left declines x best i
+    unfolding consider
+    considered-passed h = rw (sym may ∙ h)
+
+  -- The loop over the nodes, whose invariant is (i ≤ size) × (best ≡ chooseTo v left declines x i). Before the first node:
+  pub choose-none : Nobody ≡ chooseTo v left declines x 0
+  unfolding chooseTo
+  choose-none = refl
+
+  module _ (i : ℕ) (best : Choice) (e : best ≡ chooseTo v left declines x i) where
+    -- one node more
+    pub choose-more : (r : Choice) → r ≡ consider v left declines x best i → r ≡ chooseTo v left declines x (i + 1)
+    unfolding chooseTo
+    choose-more r h = rw (add-one i, h, e)
+
+    -- past the last
+    pub choose-done : i ≤ v .size → v .size ≤ i → best ≡ choose v left declines x
+    unfolding choose
+    choose-done l h = e ∙ ap (chooseTo v left declines x) (le-antisymm l h)

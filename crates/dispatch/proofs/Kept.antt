@@ -1,0 +1,105 @@
+-- What specs/Promises.antt says of the choice, of steps and of runs holds. Assumes nothing.
+use Prim.Native.Nat.{ℕ, zero, suc, _+_, _<_}
+use mathlib.Core.Bool.{cond}
+use mathlib.Core.List.{List, [], _∷_, _++_, append-nil, append-assoc}
+use mathlib.Core.Path.{_≡_, refl, sym, ap, _∙_}
+use lib.Dec.{eqb}
+use lib.ListN.{length, getD, take, List·getD-append}
+use lib.Seq.{getD-append-add}
+use native.Mathlib.Nat.{add-zero, add-suc, add-assoc, le-refl}
+use native.Mathlib.Omega.{arith}
+use Rattle.plans.specs.declared.Plan.{Plan}
+use Rattle.dispatch.proofs.Choices.{choice-chosen, choice-none, chosen-choice, none-choice}
+use Rattle.dispatch.proofs.SlotsDepth.{at-top, walk-enough}
+use Rattle.dispatch.specs.View.{View, viewOf}
+use Rattle.dispatch.specs.Slot.{slot}
+use Rattle.dispatch.specs.Run.{Said, done, refused, said, outcome, Course, courseTo, course, stateBy, ran, stepped}
+use Rattle.dispatch.specs.Promises.{ChoiceExactly, EightLevels, RunsJoin, StepIsRun, OneOutcome}
+use Rattle.dispatch.specs.declared.Outcome.{Outcome}
+use Rattle.dispatch.specs.declared.Outcome.the-variants.{Done, Beyond, Unfit, Misfit}
+use Rattle.dispatch.specs.declared.Served.{Served}
+use Rattle.dispatch.specs.declared.State.{State}
+
+-- the choice is the one that the sentence names, and nobody exactly when nobody may be taken
+pub choice-exactly : ChoiceExactly
+choice-exactly v left declines x =
+    (λ i. (choice-chosen v left declines x i, chosen-choice v left declines x i), (choice-none v left declines x, none-choice v left declines x))
+
+-- eight levels are enough from a supply
+pub eight-levels : EightLevels
+eight-levels plan sound declines more s left = walk-enough plan sound declines 8 more at-top (omega arith) left
+
+module _ (v : View) (cores n : ℕ) where
+  -- the first k slots of a run are told by the first k inputs
+  pub course-local : (supplies declines supplies' declines' left : List ℕ) (k : ℕ) →
+      ((i : ℕ) → i < k → getD supplies i 0 ≡ getD supplies' i 0) → ((i : ℕ) → i < k → getD declines i 0 ≡ getD declines' i 0) →
+      courseTo v cores n supplies declines left k ≡ courseTo v cores n supplies' declines' left k
+  unfolding courseTo
+  course-local supplies declines supplies' declines' left zero s d = refl
+  course-local supplies declines supplies' declines' left (suc k) s d =
+      let before = course-local supplies declines supplies' declines' left k (λ i l. s i (omega arith)) (λ i l. d i (omega arith)) in
+      rw (before, s k (le-refl (suc k)), d k (le-refl (suc k)))
+
+-- one course after another: the counts of the second, and the answers of both
+unfoldable after : Course → Course → Course
+after one two = record { left = two .left; answers = one .answers ++ two .answers }
+
+module _ (v : View) (cores n : ℕ) (supplies declines supplies' declines' left : List ℕ) (alike : length supplies ≡ length declines) where
+  -- a run of so many slots and k more is the two courses, one after the other
+  joined : (k : ℕ) →
+      courseTo v cores n (supplies ++ supplies') (declines ++ declines') left (length supplies + k) ≡
+      after (courseTo v cores n supplies declines left (length supplies))
+      (courseTo v cores (n + length supplies) supplies' declines' (courseTo v cores n supplies declines left (length supplies) .left) k)
+  unfolding courseTo after
+  joined zero =
+      rw (add-zero (length supplies), append-nil (courseTo v cores n supplies declines left (length supplies) .answers))
+      (course-local v cores n (supplies ++ supplies') (declines ++ declines') supplies declines left (length supplies)
+      (λ i l. List·getD-append supplies supplies' 0 i l) (λ i l. List·getD-append declines declines' 0 i (omega (arith, alike))))
+  joined (suc k) =
+      let declined : getD (declines ++ declines') (length supplies + k) 0 ≡ getD declines' k 0 =
+      ap (λ m. getD (declines ++ declines') (m + k) 0) alike ∙ getD-append-add declines declines' k 0 in
+      rw (add-suc (length supplies) k, joined k, getD-append-add supplies supplies' k 0, declined, ← (add-assoc n (length supplies) k), append-assoc)
+
+-- a run of a + b slots is a run of a followed by a run of b
+pub runs-join : RunsJoin
+unfolding after
+runs-join v cores n supplies declines supplies' declines' left alike =
+    joined v cores n supplies declines supplies' declines' left alike (length supplies')
+
+-- a run of one is one slot
+course-one : (plan : Plan) (state : State) (supplied declined : ℕ) →
+    let next : Served = slot (viewOf plan) (plan .cores) (state .clock) supplied declined (state .left) in
+    course plan state (supplied ∷ []) (declined ∷ []) ≡ record { left = next .left; answers = take (plan .cores) (next .grants) }
+unfolding course courseTo
+course-one plan state supplied declined = rw (add-zero (state .clock))
+
+-- the state handed back is told by the counts alone
+state-by-counts : (o : Outcome) (state : State) (k : ℕ) (a b : Course) → a .left ≡ b .left → stateBy o state k a ≡ stateBy o state k b
+state-by-counts Done state k a b e = rw e
+state-by-counts Beyond state k a b e = refl
+state-by-counts Unfit state k a b e = refl
+state-by-counts Misfit state k a b e = refl
+
+-- a step is a run of one
+pub step-is-run : StepIsRun
+unfolding stepped ran
+step-is-run plan state supplied declined =
+    let one = course-one plan state supplied declined in
+    (refl, state-by-counts (outcome plan state 1 1 (plan .cores)) state 1 _ _ (sym (ap (λ c. c .left) one)), λ ready. rw (ready, one))
+
+-- the outcome that a saying tells
+outcomeOf : Said → Outcome
+outcomeOf done = Done
+outcomeOf (refused r) = cond (eqb r 15) Beyond (cond (eqb r 16) Unfit Misfit)
+
+-- tells it back
+outcome-told : (a : Outcome) → outcomeOf (said a) ≡ a
+unfolding outcomeOf
+outcome-told Done = refl
+outcome-told Beyond = refl
+outcome-told Unfit = refl
+outcome-told Misfit = refl
+
+-- two outcomes that say the same are the same
+pub one-outcome : OneOutcome
+one-outcome a b e = sym (outcome-told a) ∙ ap outcomeOf e ∙ outcome-told b

@@ -1,0 +1,11 @@
+pub mod Choices
+pub mod Slots
+pub mod SlotsFresh
+pub mod SlotsDepth
+pub mod SlotsTaken
+pub mod Kept
+pub mod Choosing
+pub mod Counting
+pub mod Walking
+pub mod Refusals
+pub mod Running

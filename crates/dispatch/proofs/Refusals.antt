@@ -1,0 +1,167 @@
+-- The refusals of fresh starts, runs and steps: what is known of a plan and a state that are fit, and one law a return. Assumes nothing.
+use Prim.Native.Nat.{ℕ, _+_, _*_, _-_, _/_, _^_, _≤_, _<_}
+use mathlib.Core.Bool.{Bool, true, false, cond, _&&_}
+use mathlib.Core.List.{List, [], _∷_}
+use mathlib.Core.Path.{_≡_, refl, sym, ap, _∙_}
+use lib.Dec.{leb, eqb}
+use lib.ListN.{replicate}
+use borrow.Author.Tests.{leb-true, leb-false, le-leb, lt-leb, eqb-true}
+use native.Mathlib.Nat.{le-div-iff-mul-le, div-lt-iff-lt-mul}
+use native.Mathlib.Omega.{arith}
+use denote.Enum.Declared.{tagOf}
+use mir.Syntax.{w64}
+use mir.Val.{Fits}
+use types.Run.{OneOf}
+use Rattle.dispatch.proofs.Outcome.{the-type}
+use Rattle.answers.specs.Answers.{accepts, nowhere}
+use Rattle.answers.specs.declared.Answer.the-variants.{Refused}
+use Rattle.plans.proofs.All.{left-true, right-true}
+use Rattle.plans.proofs.Kept.{sound-kept}
+use Rattle.plans.specs.Sound.{all, sound}
+use Rattle.plans.specs.declared.Plan.{Plan}
+use Rattle.rules.specs.Check.{rules, checked, fits}
+use Rattle.dispatch.proofs.Counting.{size-most}
+use Rattle.dispatch.specs.View.{viewOf}
+use Rattle.dispatch.specs.Run.{freshLeft, started, within, ready, outcome}
+use Rattle.dispatch.specs.declared.Outcome.{Outcome}
+use Rattle.dispatch.specs.declared.Outcome.the-variants.{Done, Beyond, Unfit, Misfit}
+use Rattle.dispatch.specs.declared.State.{State}
+
+-- a plan value that fits is sound
+pub fits-sound : (plan : Plan) → fits plan ≡ true → sound plan ≡ true
+unfolding fits checked accepts
+fits-sound plan = go (sound plan)
+  where
+    go : (b : Bool) → accepts (cond b (rules plan) (Refused 16 nowhere)) ≡ true → b ≡ true
+    go true e = refl
+    go false e = e
+
+module _ (plan : Plan) (b : Bool) (fit : b ≡ fits plan) where
+  -- a plan value that does not fit is refused a fresh start
+  pub start-refused : b ≡ false → record { outcome = Unfit; state = record { clock = 0; left = replicate 64 0 } } ≡ started plan
+  unfolding started
+  start-refused h = rw (sym fit ∙ h)
+
+  module _ (h : b ≡ true) where
+    -- one that fits has 64 nodes at most
+    pub fit-size : plan .size ≤ 64
+    fit-size = size-most plan (fits-sound plan (sym fit ∙ h))
+
+    -- and gets one
+    pub start-given : (left : List ℕ) → left ≡ freshLeft (viewOf plan) →
+        record { outcome = Done; state = record { clock = 0; left = left } } ≡ started plan
+    unfolding started
+    start-given left e = rw (sym fit ∙ h, e)
+
+  -- Whether plan value and state are fit. The plan is not:
+  module _ (state : State) where
+    pub ready-unfit : b ≡ false → false ≡ ready plan state
+    unfolding ready
+    ready-unfit h = rw (sym fit ∙ h)
+
+    module _ (h : b ≡ true) where
+      -- the clock is past its range
+      pub ready-late : 2 ^ 40 < state .clock → false ≡ ready plan state
+      unfolding ready
+      ready-late l = rw (sym fit ∙ h, lt-leb (state .clock) (2 ^ 40) l)
+
+      -- otherwise the counts decide
+      pub ready-counts : state .clock ≤ 2 ^ 40 → (r : Bool) → r ≡ all (within plan (state .left)) (plan .size) → r ≡ ready plan state
+      unfolding ready
+      ready-counts l r e = rw (sym fit ∙ h, le-leb (state .clock) (2 ^ 40) l, e)
+
+module _ (plan : Plan) (state : State) (a : Bool) (fit : a ≡ ready plan state) where
+  module _ (h : a ≡ true) where
+    -- a plan that is ready is sound
+    pub ready-sound : sound plan ≡ true
+    unfolding ready
+    ready-sound = fits-sound plan (left-true (fits plan) _ (sym fit ∙ h))
+
+    -- it has a supply
+    pub ready-cores : 0 < plan .cores
+    ready-cores = sound-kept plan ready-sound .some-core
+
+    -- and the clock is in its range
+    pub ready-clock : state .clock ≤ 2 ^ 40
+    unfolding ready
+    ready-clock = leb-true (state .clock) (2 ^ 40) (left-true (leb (state .clock) (2 ^ 40)) _ (right-true (fits plan) _ (sym fit ∙ h)))
+
+  -- The outcome of a run. Plan value or state are not fit:
+  module _ (k declines room : ℕ) where
+    pub outcome-unfit : a ≡ false → Unfit ≡ outcome plan state k declines room
+    unfolding outcome
+    outcome-unfit h = rw (sym fit ∙ h)
+
+    module _ (h : a ≡ true) (b : Bool) (roomy : b ≡ (eqb k declines && leb (k * plan .cores) room)) where
+      -- the buffers' lengths do not fit
+      pub outcome-misfit : b ≡ false → Misfit ≡ outcome plan state k declines room
+      unfolding outcome
+      outcome-misfit l = rw (sym fit ∙ h, sym roomy ∙ l)
+
+      module _ (l : b ≡ true) (c : Bool) (ends : c ≡ leb (state .clock + k) (2 ^ 40)) where
+        -- a slot lies beyond the clock's range
+        pub outcome-beyond : c ≡ false → Beyond ≡ outcome plan state k declines room
+        unfolding outcome
+        outcome-beyond m = rw (sym fit ∙ h, sym roomy ∙ l, sym ends ∙ m)
+
+        -- and otherwise it is done
+        pub outcome-done : c ≡ true → Done ≡ outcome plan state k declines room
+        unfolding outcome
+        outcome-done m = rw (sym fit ∙ h, sym roomy ∙ l, sym ends ∙ m)
+
+-- two tests that hold and fail together are the same
+same-test : (a b : Bool) → (a ≡ true → b ≡ true) → (a ≡ false → b ≡ false) → a ≡ b
+same-test true b h l = sym (h refl)
+same-test false b h l = sym (l refl)
+
+-- room for k answers of each core, without a product that might wrap
+pub room-shared : (cores k declines room : ℕ) (r : Bool) → 0 < cores → r ≡ (eqb k declines && leb k (room / cores)) →
+    r ≡ (eqb k declines && leb (k * cores) room)
+room-shared cores k declines room r some e =
+    e ∙ ap (λ b. eqb k declines && b)
+    (same-test (leb k (room / cores)) (leb (k * cores) room)
+    (λ h. le-leb (k * cores) room (le-div-iff-mul-le some .0 (leb-true k (room / cores) h)))
+    (λ h. lt-leb (k * cores) room (div-lt-iff-lt-mul some .0 (leb-false k (room / cores) h))))
+
+-- k slots before the end of the clock's range, without a sum that might wrap
+pub range-left : (clock k : ℕ) → clock ≤ 2 ^ 40 → leb k (1099511627776 - clock) ≡ leb (clock + k) (2 ^ 40)
+range-left clock k most =
+    same-test (leb k (1099511627776 - clock)) (leb (clock + k) (2 ^ 40))
+    (λ h. le-leb (clock + k) (2 ^ 40) (omega (arith, leb-true k (1099511627776 - clock) h)))
+    (λ h. lt-leb (clock + k) (2 ^ 40) (omega (arith, leb-false k (1099511627776 - clock) h)))
+
+-- an outcome is a refusal, as the `else` of a `let Outcome::Done = outcome` finds it
+abbrev pub Refusal : Outcome → Type 0
+Refusal o = OneOf (1 ∷ 2 ∷ 3 ∷ []) (tagOf the-type o)
+
+module _ (plan : Plan) (state : State) (k declines room : ℕ) (o : Outcome) (e : o ≡ outcome plan state k declines room) (done : o ≡ Done) where
+  -- a run that is done passed its three tests
+  done-tests : (ready plan state ≡ true) × ((eqb k declines && leb (k * plan .cores) room) ≡ true) × (leb (state .clock + k) (2 ^ 40) ≡ true)
+  unfolding outcome
+  done-tests = go (ready plan state) (eqb k declines && leb (k * plan .cores) room) (leb (state .clock + k) (2 ^ 40)) (sym e ∙ done)
+    where
+      go : (a b c : Bool) → cond a (cond b (cond c Done Beyond) Misfit) Unfit ≡ Done → (a ≡ true) × (b ≡ true) × (c ≡ true)
+      go true true true h = (refl, refl, refl)
+      go true true false h = (refl, refl, cc)
+      go true false c h = (refl, cc, cc)
+      go false b c h = (cc, cc, cc)
+
+  -- its plan is sound
+  pub done-sound : sound plan ≡ true
+  done-sound = ready-sound plan state true (sym (done-tests .0)) refl
+
+  -- its inputs are equally long
+  pub done-equal : k ≡ declines
+  done-equal = eqb-true k declines (left-true (eqb k declines) _ (done-tests .1))
+
+  -- there is room for its answers
+  pub done-room : k * plan .cores ≤ room
+  done-room = leb-true (k * plan .cores) room (right-true (eqb k declines) _ (done-tests .1))
+
+  -- the clock stays in its range
+  pub done-clock : state .clock + k ≤ 2 ^ 40
+  done-clock = leb-true (state .clock + k) (2 ^ 40) (done-tests .2)
+
+  -- and so does not wrap
+  pub done-fits : Fits w64 (state .clock + k)
+  done-fits = record { fits = omega (arith, done-clock) }

@@ -1,0 +1,192 @@
+-- What the calls that give out a run answer: the laws of the loop that lays a slot's answers down, of the loop over the slots, and one law a
+-- return of a run and of a step. Assumes nothing.
+use Prim.Native.Nat.{ℕ, zero, suc, _+_, _*_, _^_, _≤_, _<_}
+use mathlib.Core.Bool.{true}
+use mathlib.Core.List.{List, [], _∷_, _++_}
+use mathlib.Core.Path.{_≡_, refl, sym, ap, _∙_}
+use lib.ListN.{length, getD, set, take, drop, replicate, length-append, length-drop}
+use lib.Seq.{paste, paste-suc, length-paste, length-take-le, take-at, drop-append-add, drop-drop}
+use native.Mathlib.Nat.{le-antisymm, zero-mul, suc-mul, mul-le-mul-left, mul-le-mul-right}
+use native.Mathlib.Numerals.{add-one}
+use native.Mathlib.Omega.{arith}
+use mir.Syntax.{w64}
+use mir.Val.{Fits}
+use types.Run.{miss}
+use Rattle.plans.specs.Sound.{sound}
+use Rattle.plans.specs.declared.Plan.{Plan}
+use Rattle.dispatch.proofs.Counting.{cores-most}
+use Rattle.dispatch.proofs.Refusals.{Refusal}
+use Rattle.dispatch.proofs.Slots.{length-grants}
+use Rattle.dispatch.specs.View.{View, viewOf}
+use Rattle.dispatch.specs.Slot.{slot}
+use Rattle.dispatch.specs.Run.{outcome, Course, courseTo, course, stateBy, roomBy, ran, roomAfter, grantsBy, stepped}
+use Rattle.dispatch.specs.declared.Outcome.{Outcome}
+use Rattle.dispatch.specs.declared.Outcome.the-variants.{Done, Beyond, Unfit, Misfit}
+use Rattle.dispatch.specs.declared.State.{State}
+use Rattle.dispatch.specs.declared.Served.{Served}
+
+-- The loop that lays n of eight grants down at `at` of a buffer d, whose invariant is (i ≤ n) × (out ≡ paste d at grants i).
+module _ (d : List ℕ) (at : ℕ) (grants : List ℕ) (eight : length grants ≡ 8) (n : ℕ) (few : n ≤ 8) (room : at + n ≤ length d)
+    (out : List ℕ) (i : ℕ) (e : out ≡ paste d at grants i) where
+  -- the buffer keeps its length
+  pub put-length : i ≤ n → length out ≡ length d
+  put-length l = ap length e ∙ length-paste d at grants i (omega arith) (omega arith)
+
+  -- there is a place for the next grant
+  pub put-place : i < n → at + i < length out
+  put-place l = omega (arith, put-length (omega arith))
+
+  -- one grant more
+  pub put-more : i < n → set out (at + i) (getD grants i 0) ≡ paste d at grants (i + 1)
+  put-more l = rw (e, add-one i) (paste-suc d at grants i 0 (omega arith) (omega arith))
+
+-- past the last of n grants
+pub put-done : (d : List ℕ) (at : ℕ) (grants : List ℕ) (n : ℕ) (out : List ℕ) (i : ℕ) → out ≡ paste d at grants i → i ≤ n → n ≤ i →
+    out ≡ paste d at grants n
+put-done d at grants n out i e l h = e ∙ ap (paste d at grants) (le-antisymm l h)
+
+-- n elements laid down behind the front of a buffer
+paste-behind : (front d part out : List ℕ) (at n : ℕ) → length front ≡ at → out ≡ front ++ drop at d →
+    paste out at part n ≡ front ++ take n part ++ drop (at + n) d
+paste-behind front d part out at n e h =
+    let beyond : drop (at + n) (front ++ drop at d) ≡ drop (at + n) d =
+    sym (ap (λ m. drop (m + n) (front ++ drop at d)) e) ∙ drop-append-add front (drop at d) n ∙ drop-drop n at d in
+    rw (h, take-at front (drop at d) at e, beyond)
+
+-- The loop over the slots of a run from counts `start` into a buffer d. Its invariant is i ≤ k with `Given` below.
+module _ (v : View) (cores n : ℕ) (supplies declines start d : List ℕ) where
+  -- the counts after the first i slots, and the buffer with their answers at its front
+  pub record Given (left out : List ℕ) (i : ℕ) : Type 0 where
+    pub counts : left ≡ courseTo v cores n supplies declines start i .left
+    pub buffer : out ≡ courseTo v cores n supplies declines start i .answers ++ drop (i * cores) d
+
+  -- before the first slot
+  pub give-none : Given start d 0
+  unfolding courseTo
+  give-none = record { counts = refl; buffer = rw (zero-mul cores) }
+
+  -- each slot has an answer for each core
+  pub length-answers : cores ≤ 8 → (i : ℕ) → length (courseTo v cores n supplies declines start i .answers) ≡ i * cores
+  unfolding courseTo
+  length-answers few zero = sym (zero-mul cores)
+  length-answers few (suc i) =
+      let so = courseTo v cores n supplies declines start i in
+      let grants = slot v cores (n + i) (getD supplies i 0) (getD declines i 0) (so .left) .grants in
+      let eight : length grants ≡ 8 = length-grants v (getD declines i 0) (getD supplies i 0) cores (n + i) (so .left) in
+      length-append (so .answers) (take cores grants)
+      ∙ rw (length-answers few i, length-take-le cores grants (omega arith), suc-mul i cores)
+
+  module _ (few : cores ≤ 8) (k : ℕ) (room : k * cores ≤ length d) (left out : List ℕ) (i : ℕ) (so : Given left out i) where
+    -- the buffer keeps its length
+    pub give-length : i ≤ k → length out ≡ length d
+    give-length l =
+        let most : i * cores ≤ k * cores = mul-le-mul-right cores l in
+        ap length (so .buffer)
+        ∙ length-append (courseTo v cores n supplies declines start i .answers) (drop (i * cores) d)
+        ∙ omega (arith, length-answers few i, length-drop (i * cores) d)
+
+    -- there is a place for the next slot's answers
+    pub give-place : i < k → i * cores + cores ≤ length out
+    give-place l =
+        let most : (i + 1) * cores ≤ k * cores = mul-le-mul-right cores (omega arith) in
+        omega (arith, give-length (omega arith), rw (add-one i, suc-mul) at most)
+
+  -- one slot more
+  pub give-more : cores ≤ 8 → (left out : List ℕ) (i : ℕ) → Given left out i →
+      (next : Served) → next ≡ slot v cores (n + i) (getD supplies i 0) (getD declines i 0) left →
+      (after : List ℕ) → after ≡ paste out (i * cores) (next .grants) cores → Given (next .left) after (i + 1)
+  unfolding courseTo
+  give-more few left out i so next e after h =
+      record {
+        counts = rw (add-one i, e, so .counts);
+        buffer =
+            h
+            ∙ paste-behind (courseTo v cores n supplies declines start i .answers) d (next .grants) out (i * cores) cores (length-answers few i) (so .buffer)
+            ∙ rw (add-one i, suc-mul i cores, e, so .counts);
+      }
+
+module _ (plan : Plan) (state : State) (supplies declines d left out : List ℕ) (i : ℕ)
+    (so : Given (viewOf plan) (plan .cores) (state .clock) supplies declines (state .left) d left out i)
+    (l : i ≤ length supplies) (h : length supplies ≤ i) where
+  -- past the last slot the counts are the run's
+  pub give-counts : left ≡ course plan state supplies declines .left
+  unfolding course
+  give-counts = rw (← (le-antisymm l h)) (so .counts)
+
+  -- and so is the buffer
+  pub give-buffer : out ≡ course plan state supplies declines .answers ++ drop (length supplies * plan .cores) d
+  unfolding course
+  give-buffer = rw (← (le-antisymm l h)) (so .buffer)
+
+-- an index of one list is one of another as long
+pub second-place : (s d : List ℕ) (i : ℕ) → length s ≡ length d → i < length s → i < length d
+second-place s d i e l = omega arith
+
+-- the place of a slot's answers does not wrap
+pub place-fits : (plan : Plan) → sound plan ≡ true → (clock k i : ℕ) → clock + k ≤ 2 ^ 40 → i < k → Fits w64 (i * plan .cores)
+place-fits plan keeps clock k i l h =
+    let few : i * plan .cores ≤ i * 8 = mul-le-mul-left i (cores-most plan keeps) in
+    record { fits = omega arith }
+
+-- a refusal is not done
+refusal-not-done : Refusal Done → ⊥
+refusal-not-done = miss (1 ∷ 2 ∷ 3 ∷ []) 0 tt
+
+-- a refusal hands back the given state,
+refused-state : (o : Outcome) → Refusal o → (state : State) (k : ℕ) (c : Course) → stateBy o state k c ≡ state
+refused-state Done h state k c = absurd (refusal-not-done h)
+refused-state Beyond h state k c = refl
+refused-state Unfit h state k c = refl
+refused-state Misfit h state k c = refl
+
+-- writes nowhere,
+refused-room : (o : Outcome) → Refusal o → (n : ℕ) (c : Course) (out : List ℕ) → roomBy o n c out ≡ out
+refused-room Done h n c out = absurd (refusal-not-done h)
+refused-room Beyond h n c out = refl
+refused-room Unfit h n c out = refl
+refused-room Misfit h n c out = refl
+
+-- and answers 255 eight times
+refused-grants : (o : Outcome) → Refusal o → (grants : List ℕ) → grantsBy o grants ≡ replicate 8 255
+refused-grants Done h grants = absurd (refusal-not-done h)
+refused-grants Beyond h grants = refl
+refused-grants Unfit h grants = refl
+refused-grants Misfit h grants = refl
+
+module _ (plan : Plan) (state : State) (supplies declines : List ℕ) (o : Outcome) where
+  module _ (room : ℕ) (e : o ≡ outcome plan state (length supplies) (length declines) room) where
+    -- a refused run hands back the given state
+    pub run-refused : Refusal o → record { outcome = o; state = state } ≡ ran plan state supplies declines room
+    unfolding ran
+    run-refused h = rw (← e, refused-state o h)
+
+    -- and one that is done the counts after it, with the clock moved on
+    pub run-done : o ≡ Done → (left : List ℕ) → left ≡ course plan state supplies declines .left →
+        record { outcome = o; state = record { clock = state .clock + length supplies; left = left } } ≡ ran plan state supplies declines room
+    unfolding ran
+    run-done h left l = rw (← e, h, l)
+
+  module _ (out : List ℕ) (e : o ≡ outcome plan state (length supplies) (length declines) (length out)) where
+    -- a refused run writes nowhere
+    pub room-kept : Refusal o → out ≡ roomAfter plan state supplies declines out
+    unfolding roomAfter
+    room-kept h = rw (← e, refused-room o h)
+
+    -- and one that is done lays its answers down, and leaves the room beyond
+    pub room-filled : o ≡ Done → (after : List ℕ) →
+        after ≡ course plan state supplies declines .answers ++ drop (length supplies * plan .cores) out →
+        after ≡ roomAfter plan state supplies declines out
+    unfolding roomAfter
+    room-filled h after l = rw (← e, h, l)
+
+module _ (plan : Plan) (state : State) (supplied declines : ℕ) (o : Outcome) (e : o ≡ outcome plan state 1 1 (plan .cores)) where
+  -- a refused step hands back the given state, and answers 255 eight times
+  pub step-refused : Refusal o → record { outcome = o; state = state; grants = replicate 8 255 } ≡ stepped plan state supplied declines
+  unfolding stepped
+  step-refused h = rw (← e, refused-state o h, refused-grants o h)
+
+  -- and one that is done the slot's answers and counts, with the clock moved on
+  pub step-done : o ≡ Done → (next : Served) → next ≡ slot (viewOf plan) (plan .cores) (state .clock) supplied declines (state .left) →
+      record { outcome = o; state = record { clock = state .clock + 1; left = next .left }; grants = next .grants } ≡ stepped plan state supplied declines
+  unfolding stepped
+  step-done h next l = rw (← e, h, l)

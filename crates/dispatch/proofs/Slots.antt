@@ -1,0 +1,172 @@
+-- Laws of the counts in a slot, by elements: after a refill and after a charge; and how many there are after each part of a slot. Assumes nothing.
+use Prim.Native.Nat.{ℕ, zero, suc, _-_, _%_, _≤_, _<_}
+use mathlib.Core.Bool.{Bool, true, false, cond}
+use mathlib.Core.List.{List}
+use mathlib.Core.Path.{_≡_, refl, sym, _∙_}
+use lib.Dec.{eqb}
+use lib.ListN.{length, getD, set, replicate, length-set, List·getD-eq-default}
+use lib.Seq.{getD-set-same, getD-set-other, set-out}
+use borrow.Author.Tests.{eq-eqb, ne-eqb}
+use native.Mathlib.Decide.{ℕ-discrete, decLt}
+use native.Mathlib.Omega.{arith}
+use Rattle.plans.specs.declared.Parent.{Parent}
+use Rattle.plans.specs.declared.Parent.the-variants.{Supply, Node as Under}
+use Rattle.dispatch.specs.View.{View, bitOf}
+use Rattle.dispatch.specs.Choice.{choose}
+use Rattle.dispatch.specs.Slot.{refillOne, refillTo, refilled, charge, follow, walk, granting, serveCore, serveTo, slot, unsupplied}
+use Rattle.dispatch.specs.declared.Choice.{Choice}
+use Rattle.dispatch.specs.declared.Choice.the-variants.{Nobody, Child}
+use Rattle.dispatch.specs.declared.Served.{Served}
+use Rattle.dispatch.specs.declared.Walked.{Walked}
+
+module _ (v : View) (n : ℕ) where
+  -- a refill of node k leaves the others as they are,
+  refill-one-other : (left : List ℕ) (k i : ℕ) → (i ≡ k → ⊥) → getD (refillOne v n left k) i 0 ≡ getD left i 0
+  unfolding refillOne
+  refill-one-other left k i other = go (eqb (n % v .t k) 0)
+    where
+      go : (b : Bool) → getD (cond b (set left k (v .c k)) left) i 0 ≡ getD left i 0
+      go true = getD-set-other left k i (v .c k) 0 other
+      go false = refl
+
+  -- changes nothing where the slot is no multiple of k's period,
+  refill-one-kept : (left : List ℕ) (k : ℕ) → (n % v .t k ≡ 0 → ⊥) → refillOne v n left k ≡ left
+  unfolding refillOne
+  refill-one-kept left k kept = rw (ne-eqb (n % v .t k) 0 kept)
+
+  -- gives k its served C where it is,
+  refill-one-due : (left : List ℕ) (k : ℕ) → k < length left → n % v .t k ≡ 0 → getD (refillOne v n left k) k 0 ≡ v .c k
+  unfolding refillOne
+  refill-one-due left k here due = rw (eq-eqb (n % v .t k) 0 due) (getD-set-same left k (v .c k) 0 here)
+
+  -- and keeps the number of counts
+  length-refill-one : (left : List ℕ) (k : ℕ) → length (refillOne v n left k) ≡ length left
+  unfolding refillOne
+  length-refill-one left k = go (eqb (n % v .t k) 0)
+    where
+      go : (b : Bool) → length (cond b (set left k (v .c k)) left) ≡ length left
+      go true = length-set left k (v .c k)
+      go false = refl
+
+  -- a refill of the first k nodes keeps the number of counts,
+  length-refill-to : (left : List ℕ) (k : ℕ) → length (refillTo v n left k) ≡ length left
+  unfolding refillTo
+  length-refill-to left zero = refl
+  length-refill-to left (suc k) = length-refill-one (refillTo v n left k) k ∙ length-refill-to left k
+
+  -- keeps what is not due,
+  refill-to-else : (left : List ℕ) (i k : ℕ) → (i < k → n % v .t i ≡ 0 → ⊥) → getD (refillTo v n left k) i 0 ≡ getD left i 0
+  unfolding refillTo
+  refill-to-else left i zero kept = refl
+  refill-to-else left i (suc k) kept = go (ℕ-discrete i k) ∙ refill-to-else left i k (λ l. kept (omega arith))
+    where
+      go : Dec (i ≡ k) → getD (refillOne v n (refillTo v n left k) k) i 0 ≡ getD (refillTo v n left k) i 0
+      go (yes e) = rw (refill-one-kept (refillTo v n left k) k (λ h. kept (omega arith) (rw e h)))
+      go (no other) = refill-one-other (refillTo v n left k) k i other
+
+  -- and gives what is due its served C
+  refill-to-due : (left : List ℕ) (i k : ℕ) → i < length left → n % v .t i ≡ 0 → i < k → getD (refillTo v n left k) i 0 ≡ v .c i
+  unfolding refillTo
+  refill-to-due left i zero here due l = absurd (omega arith)
+  refill-to-due left i (suc k) here due l = go (ℕ-discrete i k) (refill-to-due left i k here due)
+    where
+      go : Dec (i ≡ k) → (i < k → getD (refillTo v n left k) i 0 ≡ v .c i) → getD (refillOne v n (refillTo v n left k) k) i 0 ≡ v .c i
+      go (yes e) before = rw (← e) (refill-one-due (refillTo v n left i) i (omega (arith, length-refill-to left i)) due)
+      go (no other) before = refill-one-other (refillTo v n left k) k i other ∙ before (omega arith)
+
+  module _ (left : List ℕ) where
+    -- a refill keeps the number of counts
+    pub length-refilled : length (refilled v n left) ≡ length left
+    unfolding refilled
+    length-refilled = length-refill-to left (v .size)
+
+    -- a node whose period begins at this slot has its served C
+    pub refilled-due : (i : ℕ) → i < v .size → i < length left → n % v .t i ≡ 0 → getD (refilled v n left) i 0 ≡ v .c i
+    unfolding refilled
+    refilled-due i l here due = refill-to-due left i (v .size) here due l
+
+    -- any other is kept
+    pub refilled-kept : (i : ℕ) → (i < v .size → n % v .t i ≡ 0 → ⊥) → getD (refilled v n left) i 0 ≡ getD left i 0
+    unfolding refilled
+    refilled-kept i kept = refill-to-else left i (v .size) kept
+
+    -- and past the counts there is nothing to refill
+    pub refilled-past : (i : ℕ) → length left ≤ i → getD (refilled v n left) i 0 ≡ getD left i 0
+    refilled-past i past =
+        List·getD-eq-default (refilled v n left) 0 {n = i} (omega (arith, length-refilled)) ∙ sym (List·getD-eq-default left 0 {n = i} past)
+
+module _ (left : List ℕ) (i : ℕ) where
+  -- a charge keeps the number of counts,
+  pub length-charge : length (charge left i) ≡ length left
+  unfolding charge
+  length-charge = length-set left i (getD left i 0 - 1)
+
+  -- takes one from the node that is charged,
+  pub charge-same : getD (charge left i) i 0 ≡ getD left i 0 - 1
+  unfolding charge
+  charge-same = go (decLt i (length left))
+    where
+      go : Dec (i < length left) → getD (set left i (getD left i 0 - 1)) i 0 ≡ getD left i 0 - 1
+      go (yes here) = getD-set-same left i (getD left i 0 - 1) 0 here
+      go (no past) =
+          let none : getD left i 0 ≡ 0 = List·getD-eq-default left 0 (omega arith) in
+          rw (set-out left i (getD left i 0 - 1) (omega arith), none)
+
+  -- and nothing from any other
+  pub charge-other : (j : ℕ) → (j ≡ i → ⊥) → getD (charge left i) j 0 ≡ getD left j 0
+  unfolding charge
+  charge-other j other = getD-set-other left i j (getD left i 0 - 1) 0 other
+
+module _ (v : View) (declines : ℕ) where
+  -- what follows a choice keeps the number of counts, where the walk below a host does
+  length-follow : (onward : Parent → List ℕ → Walked) → ((x : Parent) (left : List ℕ) → length (onward x left .left) ≡ length left) →
+      (left : List ℕ) (w : Choice) → length (follow v onward left w .left) ≡ length left
+  unfolding follow
+  length-follow onward keeps left Nobody = refl
+  length-follow onward keeps left (Child i) = go (v .leaf i)
+    where
+      go : (b : Bool) → length (cond b (record { grant = i; left = charge left i }) (onward (Under i) (charge left i)) .left) ≡ length left
+      go true = length-charge left i
+      go false = keeps (Under i) (charge left i) ∙ length-charge left i
+
+  -- a walk keeps the number of counts
+  pub length-walk : (levels : ℕ) (x : Parent) (left : List ℕ) → length (walk v declines levels x left .left) ≡ length left
+  unfolding walk
+  length-walk zero x left = refl
+  length-walk (suc levels) x left = length-follow (walk v declines levels) (length-walk levels) left (choose v left declines x)
+
+  module _ (supplied : ℕ) where
+    -- serving a core keeps the number of counts and of answers
+    length-core : (so : Served) (s : ℕ) →
+        (length (serveCore v supplied declines so s .left) ≡ length (so .left)) × (length (serveCore v supplied declines so s .grants) ≡ length (so .grants))
+    unfolding serveCore granting
+    length-core so s = go (bitOf supplied s)
+      where
+        w : Walked
+        w = walk v declines 8 (Supply s) (so .left)
+
+        go : (b : Bool) →
+            (length (cond b (granting so s w) so .left) ≡ length (so .left)) × (length (cond b (granting so s w) so .grants) ≡ length (so .grants))
+        go true = (length-walk 8 (Supply s) (so .left), length-set (so .grants) s (w .grant))
+        go false = (refl, refl)
+
+    -- and so does serving the first k cores
+    length-serve : (so : Served) (k : ℕ) →
+        (length (serveTo v supplied declines so k .left) ≡ length (so .left)) × (length (serveTo v supplied declines so k .grants) ≡ length (so .grants))
+    unfolding serveTo
+    length-serve so zero = (refl, refl)
+    length-serve so (suc k) =
+        let core = length-core (serveTo v supplied declines so k) k in
+        let before = length-serve so k in
+        (core .0 ∙ before .0, core .1 ∙ before .1)
+
+    module _ (cores n : ℕ) (left : List ℕ) where
+      -- a slot keeps the number of counts
+      pub length-slot : length (slot v cores n supplied declines left .left) ≡ length left
+      unfolding slot
+      length-slot = length-serve (record { grants = replicate 8 unsupplied; left = refilled v n left }) cores .0 ∙ length-refilled v n left
+
+      -- and has eight answers
+      pub length-grants : length (slot v cores n supplied declines left .grants) ≡ 8
+      unfolding slot
+      length-grants = length-serve (record { grants = replicate 8 unsupplied; left = refilled v n left }) cores .1

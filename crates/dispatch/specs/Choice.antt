@@ -1,0 +1,39 @@
+-- Whom a parent gives a slot to: document 01, "Giving out slots". Assumes nothing.
+use Prim.Native.Nat.{ℕ, zero, suc, _≤_, _<_}
+use mathlib.Core.Bool.{Bool, true, not, cond, _&&_}
+use mathlib.Core.List.{List}
+use mathlib.Core.Logic.{_⊎_}
+use mathlib.Core.Path.{_≡_}
+use lib.Dec.{ltb}
+use lib.ListN.{getD}
+use Rattle.plans.specs.Plan.{same}
+use Rattle.plans.specs.declared.Parent.{Parent}
+use Rattle.dispatch.specs.View.{View, bitOf}
+use Rattle.dispatch.specs.declared.Choice.{Choice}
+use Rattle.dispatch.specs.declared.Choice.the-variants.{Nobody, Child}
+
+-- 01: "among its children with slots left, leaves that decline passed over": whether node i may be taken under x
+unfoldable pub eligible : View → List ℕ → ℕ → Parent → ℕ → Bool
+eligible v left declines x i = same (v .parent i) x && (ltb 0 (getD left i 0) && not (v .leaf i && bitOf declines i))
+
+-- 01: "take the smallest served T, then the lowest number": node i against the choice among the nodes before it
+unfoldable pub prefer : View → Choice → ℕ → Choice
+prefer v Nobody i = Child i
+prefer v (Child j) i = cond (ltb (v .t i) (v .t j)) (Child i) (Child j)
+
+unfoldable pub consider : View → List ℕ → ℕ → Parent → Choice → ℕ → Choice
+consider v left declines x best i = cond (eligible v left declines x i) (prefer v best i) best
+
+-- the choice among the first k nodes
+unfoldable pub chooseTo : View → List ℕ → ℕ → Parent → ℕ → Choice
+chooseTo v left declines x zero = Nobody
+chooseTo v left declines x (suc k) = consider v left declines x (chooseTo v left declines x k) k
+
+unfoldable pub choose : View → List ℕ → ℕ → Parent → Choice
+choose v left declines x = chooseTo v left declines x (v .size)
+
+-- what the choice is, as document 01's sentence: i may be taken, and no other that may has a smaller served T, or the same and a lower number
+pub record Chosen (v : View) (left : List ℕ) (declines : ℕ) (x : Parent) (i : ℕ) : Type 0 where
+  pub there : i < v .size
+  pub may : eligible v left declines x i ≡ true
+  pub before : (j : ℕ) → j < v .size → eligible v left declines x j ≡ true → (v .t i < v .t j) ⊎ ((v .t i ≡ v .t j) × (i ≤ j))

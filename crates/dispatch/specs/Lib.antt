@@ -1,0 +1,5 @@
+pub mod View
+pub mod Choice
+pub mod Slot
+pub mod Run
+pub mod Promises

@@ -1,0 +1,118 @@
+-- Fresh start, run and step, with their refusals: document 01, "Giving out slots". Assumes nothing.
+use Prim.Native.Nat.{ℕ, zero, suc, _+_, _*_, _^_}
+use mathlib.Core.Bool.{Bool, cond, _&&_}
+use mathlib.Core.List.{List, [], _∷_, _++_}
+use lib.Dec.{leb, eqb}
+use lib.ListN.{length, getD, set, take, drop, replicate}
+use Rattle.plans.specs.Sound.{all}
+use Rattle.plans.specs.declared.Plan.{Plan}
+use Rattle.rules.specs.Check.{fits}
+use Rattle.dispatch.specs.View.{View, viewOf, servedC}
+use Rattle.dispatch.specs.Slot.{slot, unsupplied}
+use Rattle.dispatch.specs.declared.State.{State}
+use Rattle.dispatch.specs.declared.Outcome.{Outcome}
+use Rattle.dispatch.specs.declared.Outcome.the-variants.{Done, Beyond, Unfit, Misfit}
+use Rattle.dispatch.specs.declared.Ran.{Ran}
+use Rattle.dispatch.specs.declared.Stepped.{Stepped}
+
+-- What an outcome says in document 01's own terms: it was done, or the number of a refusal. None of these has a place.
+pub data Said : Type 0 where
+  done : Said
+  refused : ℕ → Said
+
+abbrev pub said : Outcome → Said
+said Done = done
+said Beyond = refused 15
+said Unfit = refused 16
+said Misfit = refused 17
+
+-- 01: "Fresh: n = 0 and left = served C .. Entries past the last node are 0 in a fresh state"
+unfoldable pub freshTo : View → ℕ → List ℕ
+freshTo v zero = replicate 64 0
+freshTo v (suc k) = set (freshTo v k) k (v .c k)
+
+unfoldable pub freshLeft : View → List ℕ
+freshLeft v = freshTo v (v .size)
+
+abbrev pub zeroState : State
+zeroState = record { clock = 0; left = replicate 64 0 }
+
+-- 01: "an unfit plan value gives 16", and "a refused fresh start a state of zeros"
+unfoldable pub started : Plan → Ran
+started plan =
+    cond (fits plan)
+    (record { outcome = Done; state = record { clock = 0; left = freshLeft (viewOf plan) } })
+    (record { outcome = Unfit; state = zeroState })
+
+-- 01: "16 (a left over the node's served C, a clock over 2^40, or a plan value that breaks any of 2 to 7 and 11 to 14)"
+unfoldable pub within : Plan → List ℕ → ℕ → Bool
+within plan left i = leb (getD left i 0) (servedC plan i)
+
+unfoldable pub ready : Plan → State → Bool
+ready plan state = fits plan && (leb (state .clock) (2 ^ 40) && all (within plan (state .left)) (plan .size))
+
+-- 01: "Refusals in order: 16 .., 17 (unequal inputs or too little room), 15 (n + k over 2^40)"
+unfoldable pub outcome : Plan → State → ℕ → ℕ → ℕ → Outcome
+outcome plan state k declines room =
+    cond (ready plan state)
+    (cond (eqb k declines && leb (k * plan .cores) room) (cond (leb (state .clock + k) (2 ^ 40)) Done Beyond) Misfit)
+    Unfit
+
+-- the counts after some slots, and the answers given in them, "slot by slot, supplies in order"
+pub record Course : Type 0 where
+  pub left : List ℕ
+  pub answers : List ℕ
+
+-- the first i slots of a run from slot n on: slot n + i takes supply byte i and decline word i
+unfoldable pub courseTo : View → ℕ → ℕ → List ℕ → List ℕ → List ℕ → ℕ → Course
+courseTo v cores n supplies declines left zero = record { left = left; answers = [] }
+courseTo v cores n supplies declines left (suc i) =
+    let so = courseTo v cores n supplies declines left i in
+    let next = slot v cores (n + i) (getD supplies i 0) (getD declines i 0) (so .left) in
+    record { left = next .left; answers = so .answers ++ take cores (next .grants) }
+
+unfoldable pub course : Plan → State → List ℕ → List ℕ → Course
+course plan state supplies declines =
+    courseTo (viewOf plan) (plan .cores) (state .clock) supplies declines (state .left) (length supplies)
+
+-- 01: "After a run the clock is n + k", and a refusal "hands back the given state"
+abbrev pub stateBy : Outcome → State → ℕ → Course → State
+stateBy Done state k c = record { clock = state .clock + k; left = c .left }
+stateBy Beyond state k c = state
+stateBy Unfit state k c = state
+stateBy Misfit state k c = state
+
+-- 01: "room beyond stays", and a refusal "writes nowhere"
+abbrev pub roomBy : Outcome → ℕ → Course → List ℕ → List ℕ
+roomBy Done n c out = c .answers ++ drop n out
+roomBy Beyond n c out = out
+roomBy Unfit n c out = out
+roomBy Misfit n c out = out
+
+-- a run: its outcome, the state that it hands back, and the buffer afterwards
+unfoldable pub ran : Plan → State → List ℕ → List ℕ → ℕ → Ran
+ran plan state supplies declines room =
+    let o = outcome plan state (length supplies) (length declines) room in
+    record { outcome = o; state = stateBy o state (length supplies) (course plan state supplies declines) }
+
+unfoldable pub roomAfter : Plan → State → List ℕ → List ℕ → List ℕ → List ℕ
+roomAfter plan state supplies declines out =
+    roomBy (outcome plan state (length supplies) (length declines) (length out)) (length supplies * plan .cores)
+    (course plan state supplies declines) out
+
+-- 01: "A step is a run of one with eight answers by value, 255 past the last supply and all 255 in a refusal"
+abbrev pub grantsBy : Outcome → List ℕ → List ℕ
+grantsBy Done grants = grants
+grantsBy Beyond grants = replicate 8 unsupplied
+grantsBy Unfit grants = replicate 8 unsupplied
+grantsBy Misfit grants = replicate 8 unsupplied
+
+unfoldable pub stepped : Plan → State → ℕ → ℕ → Stepped
+stepped plan state supplied declines =
+    let o = outcome plan state 1 1 (plan .cores) in
+    let next = slot (viewOf plan) (plan .cores) (state .clock) supplied declines (state .left) in
+    record {
+      outcome = o;
+      state = stateBy o state 1 (record { left = next .left; answers = [] });
+      grants = grantsBy o (next .grants)
+    }

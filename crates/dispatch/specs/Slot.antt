@@ -1,0 +1,66 @@
+-- One slot: refill, then each supplied core's walk from its supply through hosts to a leaf. Document 01, "Giving out slots". Assumes nothing.
+use Prim.Native.Nat.{ℕ, zero, suc, _-_, _%_}
+use mathlib.Core.Bool.{Bool, cond}
+use mathlib.Core.List.{List}
+use lib.Dec.{eqb}
+use lib.ListN.{getD, set, replicate}
+use Rattle.plans.specs.declared.Parent.{Parent}
+use Rattle.plans.specs.declared.Parent.the-variants.{Supply, Node as Under}
+use Rattle.dispatch.specs.View.{View, bitOf}
+use Rattle.dispatch.specs.Choice.{choose}
+use Rattle.dispatch.specs.declared.Choice.{Choice}
+use Rattle.dispatch.specs.declared.Choice.the-variants.{Nobody, Child}
+use Rattle.dispatch.specs.declared.Walked.{Walked}
+use Rattle.dispatch.specs.declared.Served.{Served}
+
+-- 01: "At each slot whose number is a multiple of a node's served T, its left becomes its served C before anything is picked": node i at slot n,
+-- and the first k nodes
+unfoldable pub refillOne : View → ℕ → List ℕ → ℕ → List ℕ
+refillOne v n left i = cond (eqb (n % v .t i) 0) (set left i (v .c i)) left
+
+unfoldable pub refillTo : View → ℕ → List ℕ → ℕ → List ℕ
+refillTo v n left zero = left
+refillTo v n left (suc k) = refillOne v n (refillTo v n left k) k
+
+unfoldable pub refilled : View → ℕ → List ℕ → List ℕ
+refilled v n left = refillTo v n left (v .size)
+
+-- 01: "its left falls by one"
+unfoldable pub charge : List ℕ → ℕ → List ℕ
+charge left i = set left i (getD left i 0 - 1)
+
+-- 01: "254 idle, 255 not supplied"
+abbrev pub idle : ℕ
+idle = 254
+
+abbrev pub unsupplied : ℕ
+unsupplied = 255
+
+-- 01: "At a leaf the slot is its grant. At a host the same choice is made among its children .. If there is nobody to take, the slot is idle; hosts
+-- already passed stay charged": what follows a choice, where `onward` is the walk below a host
+unfoldable pub follow : View → (Parent → List ℕ → Walked) → List ℕ → Choice → Walked
+follow v onward left Nobody = record { grant = idle; left = left }
+follow v onward left (Child i) =
+    cond (v .leaf i) (record { grant = i; left = charge left i }) (onward (Under i) (charge left i))
+
+-- 01: "so the walk goes down at most eight levels": the walk from parent x with so many levels to go
+unfoldable pub walk : View → ℕ → ℕ → Parent → List ℕ → Walked
+walk v declines zero x left = record { grant = idle; left = left }
+walk v declines (suc levels) x left = follow v (walk v declines levels) left (choose v left declines x)
+
+-- 01: "For a supplied core": the answers and counts so far, with core s served
+unfoldable pub granting : Served → ℕ → Walked → Served
+granting so s w = record { grants = set (so .grants) s (w .grant); left = w .left }
+
+unfoldable pub serveCore : View → ℕ → ℕ → Served → ℕ → Served
+serveCore v supplied declines so s =
+    cond (bitOf supplied s) (granting so s (walk v declines 8 (Supply s) (so .left))) so
+
+unfoldable pub serveTo : View → ℕ → ℕ → Served → ℕ → Served
+serveTo v supplied declines so zero = so
+serveTo v supplied declines so (suc k) = serveCore v supplied declines (serveTo v supplied declines so k) k
+
+-- slot n, cores in supply order: the answers, 255 where a core is not supplied, and the counts after it
+unfoldable pub slot : View → ℕ → ℕ → ℕ → ℕ → List ℕ → Served
+slot v cores n supplied declines left =
+    serveTo v supplied declines (record { grants = replicate 8 unsupplied; left = refilled v n left }) cores

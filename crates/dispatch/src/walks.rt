@@ -1,0 +1,72 @@
+// One slot: refill, then for each supplied core the walk from its supply through hosts to a leaf.
+ghost use mathlib.Core.Path.{_≡_};
+ghost use mathlib.Core.Bool.{true};
+ghost use Prim.Native.Nat.{_<_};
+ghost use Rattle.plans.specs.Sound.{sound};
+ghost use Rattle.dispatch.specs.View.{viewOf};
+ghost use Rattle.dispatch.specs.Slot.{walk, serveCore, slot};
+use crate::Choice;
+use crate::Served;
+use crate::Walked;
+use plans::Parent;
+use plans::Plan;
+
+// Slot n: the answers of its cores in supply order, and the counts after it.
+pub fn serve(plan: Plan, n: u64, supplied: u8, declines: u64, left: [u16; 64]) -> Served
+    requires { ⌜ sound plan ≡ true ⌝ }
+    ensures { λ r. ⌜ r ≡ slot (viewOf plan) (plan .cores) n supplied declines left ⌝ }
+{
+    let cores = plan.cores;
+    let full = crate::counts::refill(plan, n, left);
+    let none = [255; 8];
+    let mut so = Served {
+        grants: none,
+        left: full,
+    };
+    let mut s: usize = 0;
+    while s < cores {
+        so = serve_core(plan, supplied, declines, so, s);
+        s += 1;
+    }
+    so
+}
+
+// Core s, where it is supplied: one grant is replaced.
+fn serve_core(plan: Plan, supplied: u8, declines: u64, so: Served, s: usize) -> Served
+    requires { ⌜ (sound plan ≡ true) × (s < 8) ⌝ }
+    ensures { λ r. ⌜ r ≡ serveCore (viewOf plan) supplied declines so s ⌝ }
+{
+    if !crate::picks::is_set(supplied as u64, s) {
+        return so;
+    }
+    let counts = so.left;
+    let w = descend(plan, declines, 8, Parent::Supply(s as u8), counts);
+    let left = w.left;
+    let mut grants = so.grants;
+    grants[s] = w.grant;
+    Served { grants, left }
+}
+
+// The walk down from parent x: the levels to go fall at each call.
+fn descend(plan: Plan, declines: u64, levels: u8, x: Parent, left: [u16; 64]) -> Walked
+    requires { ⌜ sound plan ≡ true ⌝ }
+    ensures { λ r. ⌜ r ≡ walk (viewOf plan) declines levels x left ⌝ }
+{
+    if levels == 0 {
+        return Walked { grant: 254, left };
+    }
+    match crate::picks::choice(plan, left, declines, x) {
+        Choice::Nobody => Walked { grant: 254, left },
+        Choice::Child(i) => {
+            let charged = crate::counts::charge_one(left, i);
+            if plans::is_host(plan, i) {
+                descend(plan, declines, levels - 1, Parent::Node(i as u8), charged)
+            } else {
+                Walked {
+                    grant: i as u8,
+                    left: charged,
+                }
+            }
+        }
+    }
+}

@@ -1,0 +1,112 @@
+-- The levels of a plan: each parent with its children over time, as the level lemma takes them, and what the rules and the dispatcher keep of them.
+-- Assumes nothing.
+use Prim.Native.Nat.{ℕ, _*_, _/_, _%_, _≤_, _<_}
+use mathlib.Core.Bool.{Bool, true, false, _&&_, _||_}
+use mathlib.Core.Path.{_≡_, refl}
+use native.Mathlib.Nat.{le-refl, le-of-eq, mul-left-comm, mul-div-assoc, dvd-of-mod-eq-zero}
+use native.Mathlib.Omega.{arith}
+use lib.Dec.{ltb, eqb}
+use borrow.Author.Tests.{ltb-true, eqb-true, lt-ltb, le-ltb, eq-eqb}
+use Rattle.meaning.specs.Types.{Honours}
+use Rattle.meaning.specs.declared.Kind.the-variants.{Aligned}
+use Rattle.meaning.specs.declared.SlotType.{SlotType}
+use Rattle.plans.specs.Plan.{ownType, isChild}
+use Rattle.plans.specs.declared.Parent.{Parent}
+use Rattle.plans.specs.declared.Plan.{Plan}
+use Rattle.plans.proofs.Entries.{child-of-parent, parent-of-child}
+use Rattle.rules.specs.Fit.{Child, Fit, childPeriod, longest, load, loadTo, side}
+use Rattle.dispatch.specs.View.{bitOf, isLeaf, servedC, servedT}
+use Rattle.unending.specs.Unending.{has, charged, may}
+use Rattle.levels.specs.Level.{Books, Level, Offered, Kept}
+use Rattle.levels.specs.Level as Levels
+use Rattle.levels.proofs.Periods.{at-least}
+
+-- node j is served sooner than node i: it has the smaller served period, or the same and the lower number
+unfoldable pub sooner : Plan → ℕ → ℕ → Bool
+sooner plan j i = ltb (servedT plan j) (servedT plan i) || (eqb (servedT plan j) (servedT plan i) && ltb j i)
+
+module _ (plan : Plan) (j i : ℕ) where
+  -- a node with the smaller period is served sooner
+  pub smaller-sooner : servedT plan j < servedT plan i → sooner plan j i ≡ true
+  unfolding sooner
+  smaller-sooner l = rw (lt-ltb (servedT plan j) (servedT plan i) l)
+
+  -- and of two with the same period the one with the lower number
+  pub lower-sooner : servedT plan j ≡ servedT plan i → j < i → sooner plan j i ≡ true
+  unfolding sooner
+  lower-sooner e l =
+      rw (le-ltb (servedT plan j) (servedT plan i) (omega arith), eq-eqb (servedT plan j) (servedT plan i) e, lt-ltb j i l)
+
+  -- a node that is served sooner has no longer period
+  sooner-shorter : sooner plan j i ≡ true → servedT plan j ≤ servedT plan i
+  unfolding sooner
+  sooner-shorter = go (ltb (servedT plan j) (servedT plan i)) (eqb (servedT plan j) (servedT plan i)) refl refl
+    where
+      go : (a b : Bool) → ltb (servedT plan j) (servedT plan i) ≡ a → eqb (servedT plan j) (servedT plan i) ≡ b → (a || (b && ltb j i)) ≡ true →
+          servedT plan j ≤ servedT plan i
+      go true b a e h = omega (arith, ltb-true (servedT plan j) (servedT plan i) a)
+      go false true a e h = le-of-eq (eqb-true (servedT plan j) (servedT plan i) e)
+      go false false a e h = absurd (let z : _≡_ {A = ℕ} 0 1 = cc in omega arith)
+
+-- no node is served sooner than itself
+pub sooner-other : (plan : Plan) (i : ℕ) → sooner plan i i ≡ false
+unfolding sooner
+sooner-other plan i =
+    let t = servedT plan i in
+    rw (le-ltb t t (le-refl t), eq-eqb t t refl, le-ltb i i (le-refl i))
+
+module _ (plan : Plan) (supply declines : ℕ → ℕ) where
+  -- parent x and its children, with slots given out from a fresh start
+  abbrev pub levelOf : Parent → Level
+  levelOf x =
+      record {
+        size = plan .size;
+        child = isChild plan x;
+        c = servedC plan;
+        t = servedT plan;
+        gives = may plan supply declines x;
+        owes = λ t. ownType plan x .c * (t / ownType plan x .t);
+        has = has plan supply declines;
+        charged = charged plan supply declines;
+        sooner = sooner plan;
+      }
+
+  -- What the dispatcher keeps: each node's books, who is charged was offered the slot, and who is offered a slot and does not decline is charged.
+  pub record Keeps : Type 0 where
+    pub books : (i : ℕ) → i < plan .size → Books (servedC plan i) (servedT plan i) (has plan supply declines i) (charged plan supply declines i)
+    pub offered : (x : Parent) (i : ℕ) → Child plan x i → (n : ℕ) → charged plan supply declines i n ≡ true → Offered (levelOf x) i n
+    pub taken : (x : Parent) (i : ℕ) → Child plan x i → (n : ℕ) → Offered (levelOf x) i n →
+        (isLeaf plan i ≡ true → bitOf (declines n) i ≡ false) → charged plan supply declines i n ≡ true
+
+  module _ (x : Parent) (i : ℕ) where
+    -- a child in the plan is one in the level
+    pub in-level : Child plan x i → Levels.Child (levelOf x) i
+    in-level c = record { there = c .there; is = child-of-parent plan x i (c .under) }
+
+    -- and the other way round
+    pub in-plan : Levels.Child (levelOf x) i → Child plan x i
+    in-plan c = record { there = c .there; under = parent-of-child plan x i (c .is) }
+
+  -- where a parent of a fit plan honours its own type its level is kept
+  pub level-kept : Fit plan → Keeps → (x : Parent) → Honours Aligned (ownType plan x) (may plan supply declines x) → Kept (levelOf x)
+  unfolding servedT servedC Levels.longest Levels.load longest load loadTo side childPeriod
+  level-kept fit keeps x honours =
+      record {
+        given = λ i c.
+            at-least (own .c) (own .t) (may plan supply declines x) (λ b. honours (b * own .t) (b, refl)) (servedT plan i) (multiple i c);
+        scales = λ i c e.
+            rw (mul-div-assoc (own .t) e (dvd-of-mod-eq-zero (own .t) (multiple i c)))
+            (le-of-eq (mul-left-comm (own .c) e (servedT plan i / own .t)));
+        books = λ i c. keeps .books i (c .there);
+        offered = λ i c. keeps .offered x i (in-plan x i c);
+        shorter = λ i j. sooner-shorter plan j i;
+        other = sooner-other plan;
+        rule13 = λ i j c d. fit .rule13 x i j (in-plan x i c) (in-plan x j d);
+        rule14 = fit .rule14 x;
+      }
+    where
+      own : SlotType
+      own = ownType plan x
+
+      multiple : (i : ℕ) → Levels.Child (levelOf x) i → servedT plan i % own .t ≡ 0
+      multiple i c = fit .rule12 x i (in-plan x i c)

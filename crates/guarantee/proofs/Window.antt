@@ -1,0 +1,76 @@
+-- A leaf's window: where the leaf declines in no slot of its served periods that touch a wanted window, it is charged what it asked for there.
+-- The slots outside those periods are taken as its own, so that rule 11 speaks of an allocation that honours the served type. Assumes nothing.
+use Prim.Native.Nat.{ℕ, _+_, _-_, _/_, _≤_, _<_}
+use mathlib.Core.Bool.{Bool, true, false, not, _||_}
+use mathlib.Core.Path.{_≡_, refl}
+use native.Mathlib.Omega.{arith}
+use lib.Dec.{eqb}
+use borrow.Author.Tests.{eqb-true, eq-eqb}
+use Rattle.meaning.specs.Allocation.{Allocation, ones}
+use Rattle.meaning.specs.Types.{Starts}
+use Rattle.owed.proofs.Ones.{ones-ext}
+use Rattle.plans.specs.Plan.{parentOf, kindOf, wantedOf, servedOf, wantedAs}
+use Rattle.plans.specs.declared.Plan.{Plan}
+use Rattle.rules.specs.Fit.{Fit}
+use Rattle.dispatch.specs.View.{bitOf}
+use Rattle.unending.specs.Unending.{any, charged}
+use Rattle.unending.proofs.Any.{any-found, any-here}
+use Rattle.levels.specs.Level.{Offered}
+use Rattle.guarantee.specs.Partition.{KeepsTypes}
+use Rattle.guarantee.proofs.Levels.{levelOf, Keeps}
+use Rattle.guarantee.proofs.Tree.{offered-served}
+
+-- slot n lies in the same period of T slots as slot w + k
+together : ℕ → ℕ → ℕ → ℕ → Bool
+together T w n k = eqb (n / T) ((w + k) / T)
+
+-- slot n lies in a period of T slots that touches the window of L slots from w on
+touched : ℕ → ℕ → ℕ → ℕ → Bool
+touched T w L n = any (together T w n) L
+
+-- an allocation with every slot outside those periods set
+patched : ℕ → ℕ → ℕ → Allocation → Allocation
+patched T w L α n = not (touched T w L n) || α n
+
+module _ (T w L : ℕ) (α : Allocation) where
+  -- inside the window nothing is changed
+  patched-inside : (n : ℕ) → w ≤ n → n < w + L → patched T w L α n ≡ α n
+  unfolding patched touched together
+  patched-inside n l m =
+      let k : ℕ = n - w in
+      let at : w + k ≡ n = omega arith in
+      rw (any-here (together T w n) L k (omega arith) (eq-eqb (n / T) ((w + k) / T) (rw at)))
+
+  -- a slot is set where the allocation has it as soon as it touches the window
+  patched-set : (n : ℕ) → ((k : ℕ) → k < L → n / T ≡ (w + k) / T → α n ≡ true) → patched T w L α n ≡ true
+  unfolding patched touched together
+  patched-set n h = go (touched T w L n) refl
+    where
+      go : (b : Bool) → touched T w L n ≡ b → (not b || α n) ≡ true
+      go true e =
+          let (k, below, at) = any-found (together T w n) L e in
+          h k below (eqb-true (n / T) ((w + k) / T) at)
+      go false e = refl
+
+module _ (plan : Plan) (fit : Fit plan) (supply declines : ℕ → ℕ) (keeps : Keeps plan supply declines) (supplied : KeepsTypes plan supply) where
+  -- under a supply that keeps its types a node that declines in no served period touching a wanted window is charged what it asked for there
+  pub window-served : (i : ℕ) → i < plan .size → (w : ℕ) → Starts (wantedAs (kindOf plan i)) (wantedOf plan i .t) w →
+      ((x y : ℕ) → w ≤ y → y < w + wantedOf plan i .t → x / servedOf plan i .t ≡ y / servedOf plan i .t → bitOf (declines x) i ≡ false) →
+      wantedOf plan i .c ≤ ones (charged plan supply declines i) w (wantedOf plan i .t)
+  window-served i l w starts accepts =
+      rw (ones-ext (patched T w L mine) mine w L (patched-inside T w L mine)) at
+      (fit .rule11 i l (patched T w L mine) (offered-served plan fit supply declines keeps supplied i l (patched T w L mine) covers) w starts)
+    where
+      T : ℕ
+      T = servedOf plan i .t
+
+      L : ℕ
+      L = wantedOf plan i .t
+
+      mine : Allocation
+      mine = charged plan supply declines i
+
+      covers : (n : ℕ) → Offered (levelOf plan supply declines (parentOf plan i)) i n → patched T w L mine n ≡ true
+      covers n o =
+          patched-set T w L mine n
+          (λ k m e. keeps .taken (parentOf plan i) i (record { there = l; under = refl }) n o (λ leaf. accepts n (w + k) (omega arith) (omega arith) e))

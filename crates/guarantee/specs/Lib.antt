@@ -1,0 +1,3 @@
+pub mod Partition
+pub mod Promises
+pub mod Needed

@@ -1,0 +1,9 @@
+pub mod Holds
+pub mod Numbers
+pub mod Nodes
+pub mod Names
+pub mod Laid
+pub mod Out
+pub mod Back
+pub mod Refusals
+pub mod Kept

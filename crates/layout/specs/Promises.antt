@@ -1,0 +1,57 @@
+-- What ties the bytes of a plan file to plan values, both ways: document 01, "The plan file" and demand 2. Why each holds is in proofs/.
+-- Assumes nothing.
+use Prim.Native.Nat.{ℕ, _≤_, _<_}
+use mathlib.Core.List.{List, []}
+use mathlib.Core.Logic.{_↔_}
+use mathlib.Core.Path.{_≡_}
+use lib.ListN.{length, getD}
+use Rattle.answers.specs.declared.Answer.{Answer}
+use Rattle.answers.specs.declared.Answer.the-variants.{Accepted, Refused}
+use Rattle.plans.specs.Plan.{Tidy}
+use Rattle.plans.specs.Sound.{Sound}
+use Rattle.plans.specs.declared.Plan.{Plan}
+use Rattle.rules.specs.Fit.{Fit}
+use Rattle.rules.specs.Broken.{Breach, FirstBroken, number, place}
+use Rattle.reader.specs.Read.{readPlan, nameOf}
+use Rattle.reader.specs.declared.Reading.{Reading}
+use Rattle.layout.specs.Layout.{planBytes, SoundNames}
+
+-- a list of bytes
+abbrev pub Bytes : List ℕ → Type 0
+Bytes s = (k : ℕ) → k < length s → getD s k 0 < 256
+
+-- s is the file of a plan value with these names, and of no other: the value's unused entries are zeros, and the names are sound
+pub record FileOf (s : List ℕ) (plan : Plan) (names : List (List ℕ)) : Type 0 where
+  pub tidy : Tidy plan
+  pub named : SoundNames plan names
+  pub laid : s ≡ planBytes plan names
+
+-- The reader accepts bytes with value p exactly when they are the file of p with some names, and p fits.
+abbrev pub AcceptsExactly : Type 0
+AcceptsExactly =
+    (s : List ℕ) → Bytes s → (plan : Plan) →
+    (readPlan s ≡ record { answer = Accepted; plan = plan }) ↔ ((names : List (List ℕ)) × FileOf s plan names × Fit plan)
+
+-- Refusals 11 to 14 are given exactly when the bytes are the file of a sound value, and that rule is the first broken one, at that place.
+abbrev pub RefusesByRules : Type 0
+RefusesByRules =
+    (s : List ℕ) → Bytes s → (r k : ℕ) → 11 ≤ r → r ≤ 14 →
+    (readPlan s .answer ≡ Refused r k) ↔
+    ((plan : Plan) × (names : List (List ℕ)) × FileOf s plan names × Sound plan ×
+    ((b : Breach) × FirstBroken plan b × (number b ≡ r) × (place b ≡ k)))
+
+-- A file has one reading.
+abbrev pub OneReading : Type 0
+OneReading =
+    (s : List ℕ) (a b : Plan) (m n : List (List ℕ)) → Bytes s → FileOf s a m → Sound a → FileOf s b n → Sound b →
+    (a ≡ b) × (m ≡ n)
+
+-- A name that is handed out is the one that planBytes placed.
+abbrev pub NamesPlaced : Type 0
+NamesPlaced =
+    (s : List ℕ) (plan : Plan) (names : List (List ℕ)) → Bytes s → FileOf s plan names → Fit plan → (i : ℕ) → i < plan .size →
+    nameOf s i ≡ getD names i []
+
+-- 01: "The longest plan has 2,796 bytes"
+abbrev pub LongestPlan : Type 0
+LongestPlan = (s : List ℕ) → Bytes s → readPlan s .answer ≡ Accepted → length s ≤ 2796

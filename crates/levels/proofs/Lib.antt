@@ -1,0 +1,4 @@
+pub mod Sums
+pub mod Periods
+pub mod Books
+pub mod Level

@@ -1,0 +1,191 @@
+-- What the checks of a plan file accept, said as sentences: refusals 1 to 10 of document 01, field by field. Assumes nothing.
+use Prim.Native.Nat.{ℕ, _+_, _-_, _≤_, _<_}
+use mathlib.Core.Bool.{Bool, true, false, not, and-eq-true-iff}
+use mathlib.Core.List.{List}
+use mathlib.Core.Logic.{_↔_}
+use mathlib.Core.Path.{_≡_, ap}
+use native.Mathlib.Omega.{arith}
+use lib.Dec.{leb, eqb}
+use lib.ListN.{length}
+use borrow.Author.Tests.{leb-true, le-leb, eqb-true, eq-eqb, not-true}
+use Rattle.ticks.specs.Times.{inRange}
+use Rattle.meaning.specs.Types.{wellFormed}
+use Rattle.answers.specs.Answers.{first, test, each}
+use Rattle.answers.specs.declared.Answer.{Answer}
+use Rattle.answers.specs.declared.Answer.the-variants.{Accepted}
+use Rattle.answers.proofs.Laws.{first-accepted, first-accepted-left, first-accepted-right, test-true, test-accepted, each-accepted, each-accepted-at}
+use Rattle.plans.specs.Sound.{all, counts, parentAllowed, within}
+use Rattle.plans.proofs.All.{all-true, all-true-at}
+use Rattle.fields.specs.Fields.{byteAt, fourAt, typeAt, there, checkType}
+use Rattle.decode.specs.Positions.{coresOf, supplyStart, nodesAt, sizeOf, nodeStart, namesAt, nameStart, endAt}
+use Rattle.decode.specs.Decode.{parentNamed, isNamed, planOf}
+use Rattle.names.specs.Names.{isLength, isLetter, letterAt, checkLetter, sameName, differs, isNew, checkName, checkNames}
+use Rattle.reader.specs.Read.{checkPart, checkTick, checkCount, checkSupply, checkSupplies, checkKind, checkParent, checkNode, checkNodes, checkEnd, checkBytes}
+
+-- the tests and their joins, as equivalences
+first-iff : (a b : Answer) → (first a b ≡ Accepted) ↔ ((a ≡ Accepted) × (b ≡ Accepted))
+first-iff a b = (λ e. (first-accepted-left a b e, first-accepted-right a b e), λ h. first-accepted a b (h .0) (h .1))
+
+test-iff : (ok : Bool) (r k : ℕ) → (test ok r k ≡ Accepted) ↔ (ok ≡ true)
+test-iff ok r k = (test-accepted ok r k, test-true ok r k)
+
+each-iff : (f : ℕ → Answer) (n : ℕ) → (each f n ≡ Accepted) ↔ ((i : ℕ) → i < n → f i ≡ Accepted)
+each-iff f n = (each-accepted-at f n, each-accepted f n)
+
+all-iff : (f : ℕ → Bool) (n : ℕ) → (all f n ≡ true) ↔ ((i : ℕ) → i < n → f i ≡ true)
+all-iff f n = (all-true-at f n, all-true f n)
+
+leb-iff : (a b : ℕ) → (leb a b ≡ true) ↔ (a ≤ b)
+leb-iff a b = (leb-true a b, le-leb a b)
+
+eqb-iff : (a b : ℕ) → (eqb a b ≡ true) ↔ (a ≡ b)
+eqb-iff a b = (eqb-true a b, eq-eqb a b)
+
+not-iff : (b : Bool) → (not b ≡ true) ↔ (b ≡ false)
+not-iff b = (not-true b, λ e. ap not e)
+
+ruleset sentences = (first-iff, test-iff, each-iff, all-iff, leb-iff, eqb-iff, not-iff, and-eq-true-iff)
+
+-- a type whose four bytes, from k on, are there, and that is well formed
+pub record TypeKept (s : List ℕ) (k : ℕ) : Type 0 where
+  pub whole : k + 4 ≤ length s
+  pub formed : wellFormed (typeAt s k) ≡ true
+
+-- P or Q, four bytes from k on, in its range
+pub record PartKept (s : List ℕ) (k : ℕ) : Type 0 where
+  pub whole : k + 4 ≤ length s
+  pub ranged : inRange (fourAt s k) ≡ true
+
+-- a count from 1 to `most`
+pub record CountKept (s : List ℕ) (k most : ℕ) : Type 0 where
+  pub whole : k + 1 ≤ length s
+  pub some : 1 ≤ byteAt s k
+  pub few : byteAt s k ≤ most
+
+-- node i, ten bytes from its start on
+pub record NodeKept (s : List ℕ) (i : ℕ) : Type 0 where
+  pub whole : nodeStart s i + 10 ≤ length s
+  pub kind : byteAt s (nodeStart s i) ≤ 2
+  pub named : isNamed (parentNamed (byteAt s (nodeStart s i + 1))) ≡ true
+  pub allowed : parentAllowed (planOf s) i ≡ true
+  pub shallow : within (planOf s) 8 i ≡ true
+  pub wanted : wellFormed (typeAt s (nodeStart s i + 2)) ≡ true
+  pub served : wellFormed (typeAt s (nodeStart s i + 6)) ≡ true
+
+-- name i, a length byte and that many bytes from its start on, and no earlier name is the same
+pub record NameKept (s : List ℕ) (i : ℕ) : Type 0 where
+  pub whole : nameStart s i + 1 + byteAt s (nameStart s i) ≤ length s
+  pub some : 1 ≤ byteAt s (nameStart s i)
+  pub short : byteAt s (nameStart s i) ≤ 32
+  pub letters : (j : ℕ) → j < byteAt s (nameStart s i) →
+      (33 ≤ byteAt s (nameStart s i + 1 + j)) × (byteAt s (nameStart s i + 1 + j) ≤ 126)
+  pub new : (j : ℕ) → j < i → sameName s (nameStart s j) (nameStart s i) ≡ false
+
+-- bytes that keep 1 to 10
+pub record BytesKept (s : List ℕ) : Type 0 where
+  pub one : byteAt s 0 ≡ 1
+  pub p : PartKept s 1
+  pub q : PartKept s 5
+  pub cores : CountKept s 9 8
+  pub supplies : (i : ℕ) → i < coresOf s → TypeKept s (supplyStart i)
+  pub size : CountKept s (nodesAt s) 64
+  pub nodes : (i : ℕ) → i < sizeOf s → NodeKept s i
+  pub count-there : namesAt s + 1 ≤ length s
+  pub count : byteAt s (namesAt s) ≡ sizeOf s
+  pub names : (i : ℕ) → i < sizeOf s → NameKept s i
+  pub ends : length s ≤ endAt s
+
+module _ (s : List ℕ) where
+  -- a type is accepted exactly when it is there and well formed
+  pub type-kept : (k : ℕ) → (checkType s k ≡ Accepted) ↔ TypeKept s k
+  unfolding checkType there
+  type-kept k = (
+    λ e. let h = simp sentences at e in record { whole = omega arith; formed = h .1 .1 },
+    λ h. simp sentences (omega (arith, h .whole), (omega (arith, h .whole), h .formed)),
+  )
+
+  -- P or Q is accepted exactly when it is there and in its range
+  pub part-kept : (k : ℕ) → (checkPart s k ≡ Accepted) ↔ PartKept s k
+  unfolding checkPart there
+  part-kept k =
+      (λ e. let h = simp sentences at e in record { whole = h .0; ranged = h .1 }, λ h. simp sentences (h .whole, h .ranged))
+
+  -- a count is accepted exactly when it is there and from 1 to `most`
+  pub count-kept : (k most : ℕ) → (checkCount s k most ≡ Accepted) ↔ CountKept s k most
+  unfolding checkCount there counts
+  count-kept k most = (
+    λ e. let h = simp sentences at e in record { whole = h .0; some = h .1 .0; few = h .1 .1 },
+    λ h. simp sentences (h .whole, (h .some, h .few)),
+  )
+
+  -- node i is accepted exactly when it keeps 1 and 4 to 7
+  pub node-kept : (i : ℕ) → (checkNode s i ≡ Accepted) ↔ NodeKept s i
+  unfolding checkNode checkKind checkParent there
+  node-kept i = (
+    λ e.
+        let h = simp (sentences, type-kept) at e in
+        record {
+          whole = omega (arith, h .1 .1 .1 .whole);
+          kind = h .0 .1;
+          named = h .1 .0 .1 .0 .0;
+          allowed = h .1 .0 .1 .0 .1;
+          shallow = h .1 .0 .1 .1;
+          wanted = h .1 .1 .0 .formed;
+          served = h .1 .1 .1 .formed;
+        },
+    λ h.
+        simp (sentences, type-kept) (
+          (omega (arith, h .whole), h .kind),
+          (
+            (omega (arith, h .whole), ((h .named, h .allowed), h .shallow)),
+            (record { whole = omega (arith, h .whole); formed = h .wanted }, record { whole = omega (arith, h .whole); formed = h .served }),
+          ),
+        ),
+  )
+
+  -- name i is accepted exactly when it keeps 1, 8 and 9
+  pub name-kept : (i : ℕ) → (checkName s i ≡ Accepted) ↔ NameKept s i
+  unfolding checkName checkLetter letterAt isLength isLetter isNew differs there
+  name-kept i = (
+    λ e.
+        let h = simp sentences at e in
+        record {
+          whole = omega (arith, h .1 .1 .0 (byteAt s (nameStart s i) - 1) (omega (arith, h .1 .0 .0)) .0, h .1 .0 .0);
+          some = h .1 .0 .0;
+          short = h .1 .0 .1;
+          letters = λ j l. h .1 .1 .0 j l .1;
+          new = h .1 .1 .1;
+        },
+    λ h.
+        simp sentences
+        (omega (arith, h .whole), ((h .some, h .short), (λ j l. (omega (arith, h .whole), h .letters j l), h .new))),
+  )
+
+  -- no check of the bytes refuses exactly when they keep 1 to 10
+  pub bytes-kept : (checkBytes s ≡ Accepted) ↔ BytesKept s
+  unfolding checkBytes checkTick checkSupplies checkSupply checkNodes checkNames checkEnd there coresOf
+  bytes-kept = (
+    λ e.
+        let h = simp (sentences, part-kept, count-kept, type-kept, node-kept, name-kept) at e in
+        record {
+          one = h .0 .1 .0;
+          p = h .0 .1 .1 .0;
+          q = h .0 .1 .1 .1;
+          cores = h .1 .0 .0;
+          supplies = h .1 .0 .1;
+          size = h .1 .1 .0 .0;
+          nodes = h .1 .1 .0 .1;
+          count-there = h .1 .1 .1 .0 .0;
+          count = h .1 .1 .1 .0 .1 .0;
+          names = h .1 .1 .1 .0 .1 .1;
+          ends = h .1 .1 .1 .1;
+        },
+    λ h.
+        simp (sentences, part-kept, count-kept, type-kept, node-kept, name-kept) (
+          (omega (arith, h .cores .whole), (h .one, (h .p, h .q))),
+          (
+            (h .cores, h .supplies),
+            ((h .size, h .nodes), ((h .count-there, (h .count, h .names)), h .ends)),
+          ),
+        ),
+  )

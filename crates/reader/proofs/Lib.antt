@@ -1,0 +1,5 @@
+pub mod Accepts
+pub mod Spelled
+pub mod Kept
+pub mod Checks
+pub mod Handed

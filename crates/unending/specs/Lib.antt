@@ -1,0 +1,2 @@
+pub mod Unending
+pub mod Promises

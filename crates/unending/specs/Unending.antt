@@ -1,0 +1,61 @@
+-- Slots given out from a fresh start under an unending supply: document 01, "Giving out slots", slot after slot. `supply n` is the byte of supplied cores
+-- of slot n, `declines n` its word of leaves that decline. Assumes nothing.
+use Prim.Native.Nat.{ℕ, zero, suc, _+_, _*_}
+use mathlib.Core.Bool.{Bool, false, _||_}
+use mathlib.Core.List.{List, [], _++_}
+use mathlib.Core.Path.{_≡_}
+use lib.Dec.{ltb, eqb}
+use lib.ListN.{getD, take}
+use Rattle.plans.specs.Plan.{parentOf}
+use Rattle.plans.specs.declared.Parent.{Parent}
+use Rattle.plans.specs.declared.Parent.the-variants.{Supply, Node as Under}
+use Rattle.plans.specs.declared.Plan.{Plan}
+use Rattle.dispatch.specs.View.{viewOf, bitOf}
+use Rattle.dispatch.specs.Slot.{refilled, slot, unsupplied}
+use Rattle.dispatch.specs.Run.{freshLeft}
+use Rattle.dispatch.specs.declared.Served.{Served}
+
+-- whether a test holds of some number below n
+unfoldable pub any : (ℕ → Bool) → ℕ → Bool
+any f zero = false
+any f (suc n) = any f n || f n
+
+module _ (plan : Plan) (supply declines : ℕ → ℕ) where
+  -- the counts as slot n finds them
+  unfoldable pub leftAt : ℕ → List ℕ
+  leftAt zero = freshLeft (viewOf plan)
+  leftAt (suc n) = slot (viewOf plan) (plan .cores) n (supply n) (declines n) (leftAt n) .left
+
+  -- slot n: its answers and the counts after it
+  unfoldable pub slotAt : ℕ → Served
+  slotAt n = slot (viewOf plan) (plan .cores) n (supply n) (declines n) (leftAt n)
+
+  -- what node i has left in slot n, after the refill and before anything is picked
+  unfoldable pub has : ℕ → ℕ → ℕ
+  has i n = getD (refilled (viewOf plan) n (leftAt n)) i 0
+
+  -- node i is charged in slot n: its left falls there
+  unfoldable pub charged : ℕ → ℕ → Bool
+  charged i n = ltb (getD (slotAt n .left) i 0) (has i n)
+
+  -- slot n is granted to leaf i: it is the answer of some core
+  unfoldable pub answers : ℕ → ℕ → ℕ → Bool
+  answers i n s = eqb (getD (slotAt n .grants) s unsupplied) i
+
+  unfoldable pub granted : ℕ → ℕ → Bool
+  granted i n = any (answers i n) (plan .cores)
+
+  -- the answers of the first k slots, slot by slot, supplies in order
+  unfoldable pub answersTo : ℕ → List ℕ
+  answersTo zero = []
+  answersTo (suc k) = answersTo k ++ take (plan .cores) (slotAt k .grants)
+
+  -- parent x may give slot n: a supply where its core is supplied, a host where it is charged
+  unfoldable pub may : Parent → ℕ → Bool
+  may (Supply s) n = bitOf (supply n) s
+  may (Under h) n = charged h n
+
+-- node i's core: the supply above it
+pub data Core (plan : Plan) : ℕ → ℕ → Type 0 where
+  top : {i s : ℕ} → parentOf plan i ≡ Supply s → Core plan i s
+  under : {i h s : ℕ} → parentOf plan i ≡ Under h → Core plan h s → Core plan i s

@@ -47,7 +47,7 @@ nodeOf s i =
       kind = kindNamed (byteAt s k);
       parent = parentOr (parentNamed (byteAt s (k + 1)));
       wanted = typeAt s (k + 2);
-      served = typeAt s (k + 6)
+      served = typeAt s (k + 6);
     }
 
 -- xs with f 0, .., f (n − 1) in its first n places
@@ -63,5 +63,5 @@ planOf s =
       cores = coresOf s;
       supplies = filled (supplyOf s) (replicate 8 zeroType) (min (coresOf s) 8);
       size = sizeOf s;
-      nodes = filled (nodeOf s) (replicate 64 zeroNode) (min (sizeOf s) 64)
+      nodes = filled (nodeOf s) (replicate 64 zeroNode) (min (sizeOf s) 64);
     }

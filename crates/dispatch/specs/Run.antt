@@ -114,5 +114,5 @@ stepped plan state supplied declines =
     record {
       outcome = o;
       state = stateBy o state 1 (record { left = next .left; answers = [] });
-      grants = grantsBy o (next .grants)
+      grants = grantsBy o (next .grants);
     }

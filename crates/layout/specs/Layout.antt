@@ -67,5 +67,5 @@ pub record SoundNames (plan : Plan) (names : List (List ℕ)) : Type 0 where
   pub some : (i : ℕ) → i < plan .size → 1 ≤ length (getD names i [])
   pub short : (i : ℕ) → i < plan .size → length (getD names i []) ≤ 32
   pub letters : (i k : ℕ) → i < plan .size → k < length (getD names i []) →
-    (33 ≤ getD (getD names i []) k 0) × (getD (getD names i []) k 0 ≤ 126)
+      (33 ≤ getD (getD names i []) k 0) × (getD (getD names i []) k 0 ≤ 126)
   pub distinct : (i j : ℕ) → i < plan .size → j < plan .size → getD names i [] ≡ getD names j [] → i ≡ j

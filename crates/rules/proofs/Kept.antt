@@ -8,16 +8,15 @@ use Rattle.answers.specs.declared.Answer.{Answer}
 use Rattle.answers.specs.declared.Answer.the-variants.{Accepted, Refused}
 use Rattle.plans.specs.Sound.{Sound, sound}
 use Rattle.plans.specs.declared.Plan.{Plan}
-use Rattle.plans.proofs.Kept.{sound-exactly, unused-ignored as sound-unused-ignored}
+use Rattle.plans.proofs.Kept.{sound-exactly}
 use Rattle.rules.specs.Fit.{Fit}
 use Rattle.rules.specs.Broken.{Breach, number, place, Broken, rank, Earlier, FirstBroken}
 use Rattle.rules.specs.Check.{rules, checked, fits}
-use Rattle.rules.specs.Promises.{FitsExactly, FirstExactly, UnusedIgnored}
+use Rattle.rules.specs.Promises.{FitsExactly, FirstExactly}
 use Rattle.rules.proofs.KeptOrder.{Refuses, NoneBefore, answer-accepted, accepted-none, answer-first, refused-first}
 use Rattle.rules.proofs.KeptTests.{tested-broken}
 use Rattle.rules.proofs.KeptRanks.{checks, rules-answer, refuses-tested, broken-refuses}
 use Rattle.rules.proofs.KeptFit.{fit-unbroken, unbroken-fit}
-use Rattle.rules.proofs.KeptAlike.{broken-alike}
 
 module _ (plan : Plan) (sound : Sound plan) where
   -- a breach of this rank, number and place
@@ -102,8 +101,3 @@ fit-fits plan fit = rw (sound-exactly plan .1 (fit .sound), unbroken-accepted pl
 -- a value fits exactly when it keeps the rules
 pub fits-exactly : FitsExactly
 fits-exactly plan = (fits-fit plan, fit-fits plan)
-
--- unused entries are ignored: a value that agrees with one that fits in all but those fits too
-pub unused-ignored : UnusedIgnored
-unused-ignored a b agree fit =
-    unbroken-fit b (sound-unused-ignored a b agree (fit .sound)) (λ e is. fit-unbroken a fit e (broken-alike a b agree (fit .sound) e is))

@@ -10,3 +10,4 @@ pub mod KeptRanks
 pub mod KeptFit
 pub mod KeptAlike
 pub mod Kept
+pub mod KeptUnused

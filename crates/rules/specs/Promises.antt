@@ -11,7 +11,7 @@ use Rattle.plans.specs.Sound.{Sound}
 use Rattle.plans.specs.declared.Plan.{Plan}
 use Rattle.rules.specs.Fit.{Fit}
 use Rattle.rules.specs.Broken.{Breach, FirstBroken, number, place}
-use Rattle.rules.specs.Check.{rules, fits}
+use Rattle.rules.specs.Check.{rules, checked, fits}
 
 -- 01: "A plan is accepted exactly when it keeps our written rules": on values
 abbrev pub FitsExactly : Type 0
@@ -23,6 +23,6 @@ FirstExactly =
     (plan : Plan) → Sound plan → (r k : ℕ) →
     (rules plan ≡ Refused r k) ↔ ((b : Breach) × FirstBroken plan b × (number b ≡ r) × (place b ≡ k))
 
--- 01: "unused entries of a plan value are zeros and ignored"
+-- 01: "unused entries of a plan value are zeros and ignored": values that agree in all but those get the same answer
 abbrev pub UnusedIgnored : Type 0
-UnusedIgnored = (a b : Plan) → Agree a b → Fit a → Fit b
+UnusedIgnored = (a b : Plan) → Agree a b → checked a ≡ checked b

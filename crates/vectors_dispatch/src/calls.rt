@@ -1,0 +1,74 @@
+// Makes the calls of `dispatch` and prints their results.
+use crate::edits::Case;
+use crate::show;
+use crate::text;
+
+pub fn fresh(case: Case) {
+    let ran = dispatch::fresh(case.plan);
+    show::ran(ran, case.plan.size);
+}
+
+// A run on the bytes and words that two words of the input spell, and its room afterwards.
+pub fn run(case: Case, supplies: &[u8], declines: &[u8], room: u64) {
+    let mut supplied = [0u8; 64];
+    let mut declined = [0u64; 64];
+    let mut out = [200u8; 512];
+    let n = room as usize;
+    if n <= 512 {
+        run_on(
+            case,
+            supplies,
+            declines,
+            &mut supplied,
+            &mut declined,
+            &mut out[0..n],
+        );
+    }
+}
+
+// The same, with room for the bytes and words.
+fn run_on(
+    case: Case,
+    supplies: &[u8],
+    declines: &[u8],
+    supplied: &mut [u8],
+    declined: &mut [u64],
+    out: &mut [u8],
+) {
+    let k = text::bytes(supplies, supplied);
+    let d = text::hex_words(declines, declined);
+    let ran = dispatch::run(case.plan, case.state, &supplied[0..k], &declined[0..d], out);
+    show::ran(ran, case.plan.size);
+    show::print(b", room");
+    show::answers(out, case.plan.cores);
+}
+
+// A step for each slot, each from the state that the one before handed back.
+pub fn steps(case: Case, supplies: &[u8], declines: &[u8]) {
+    let mut supplied = [0u8; 64];
+    let mut declined = [0u64; 64];
+    steps_on(case, supplies, declines, &mut supplied, &mut declined);
+}
+
+fn steps_on(
+    case: Case,
+    supplies: &[u8],
+    declines: &[u8],
+    supplied: &mut [u8],
+    declined: &mut [u64],
+) {
+    let k = text::bytes(supplies, supplied);
+    let d = text::hex_words(declines, declined);
+    each_step(case, &supplied[0..k], &declined[0..d]);
+}
+
+fn each_step(case: Case, supplied: &[u8], declined: &[u64]) {
+    let n = text::least(supplied.len(), declined.len());
+    let mut state = case.state;
+    for i in 0..n {
+        let stepped = dispatch::step(case.plan, state, supplied[i], declined[i]);
+        show::step(stepped);
+        state = stepped.state;
+    }
+    show::state(state, case.plan.size);
+}

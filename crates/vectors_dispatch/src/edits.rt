@@ -1,0 +1,207 @@
+// Edits of a case: `with WHAT INDEX VALUE` changes the plan value or the state, to something that a reader would refuse too.
+ghost use Prim.Native.Nat.{_<_};
+ghost use lib.ListN.{length};
+use crate::text;
+use dispatch::State;
+use meaning::SlotType;
+use plans::Node;
+use plans::NodeKind;
+use plans::Parent;
+use plans::Plan;
+
+// What a case has so far, and where its words go on.
+pub struct Case {
+    pub plan: Plan,
+    pub state: State,
+    pub next: usize,
+}
+
+// The first letter of what is changed, where, and to what: a number, or the two numbers of a type.
+pub struct Edit {
+    pub what: u8,
+    pub index: u64,
+    pub value: u64,
+    pub second: u64,
+}
+
+pub fn all(input: &[u8], case: Case) -> Case {
+    let mut now = case;
+    while now.next < input.len() {
+        let at = now.next;
+        if input[at] != b'w' {
+            return now;
+        }
+        now = one(input, now);
+    }
+    now
+}
+
+fn one(input: &[u8], case: Case) -> Case
+    requires { ⌜ case .next < length (now input) ⌝ }
+    ensures { λ r. ⌜ case .next < r .next ⌝ }
+{
+    let at = case.next;
+    let what = text::after(input, at);
+    let edit = edit_at(input, what);
+    let end = text::after(input, text::after(input, text::after(input, what)));
+    Case {
+        plan: plan_with(case.plan, edit),
+        state: state_with(case.state, edit),
+        next: text::further(at, end, input.len()),
+    }
+}
+
+// The edit whose three words start at `what`.
+fn edit_at(input: &[u8], what: usize) -> Edit {
+    let index = text::after(input, what);
+    let value = text::word(input, text::after(input, index));
+    Edit {
+        what: text::byte(input, what),
+        index: text::number(input, index),
+        value: text::number(value, 0),
+        second: text::number(value, text::past(value, 0, b'/')),
+    }
+}
+
+fn state_with(state: State, edit: Edit) -> State {
+    let what = edit.what;
+    let left = state.left;
+    match what {
+        b'c' => State {
+            clock: edit.value,
+            left,
+        },
+        b'l' => State {
+            clock: state.clock,
+            left: left_with(left, edit),
+        },
+        _ => state,
+    }
+}
+
+fn left_with(left: [u16; 64], edit: Edit) -> [u16; 64] {
+    let mut changed = left;
+    let i = edit.index as usize;
+    if i < 64 {
+        changed[i] = sixteen(edit.value);
+    }
+    changed
+}
+
+fn plan_with(plan: Plan, edit: Edit) -> Plan {
+    let what = edit.what;
+    match what {
+        b'P' | b'Q' => tick_with(plan, edit),
+        b'S' | b'N' => count_with(plan, edit),
+        b's' => supply_with(plan, edit),
+        b'k' | b'p' | b'w' | b'g' => nodes_with(plan, edit),
+        _ => plan,
+    }
+}
+
+fn tick_with(plan: Plan, edit: Edit) -> Plan {
+    let mut tick = plan.tick;
+    let mut changed = plan;
+    if edit.what == b'P' {
+        tick.p = thirty_two(edit.value);
+    } else {
+        tick.q = thirty_two(edit.value);
+    }
+    changed.tick = tick;
+    changed
+}
+
+fn count_with(plan: Plan, edit: Edit) -> Plan {
+    let mut changed = plan;
+    if edit.what == b'S' {
+        changed.cores = edit.value as usize;
+    } else {
+        changed.size = edit.value as usize;
+    }
+    changed
+}
+
+fn supply_with(plan: Plan, edit: Edit) -> Plan {
+    let mut changed = plan;
+    let i = edit.index as usize;
+    if i < 8 {
+        changed.supplies[i] = type_of(edit);
+    }
+    changed
+}
+
+fn nodes_with(plan: Plan, edit: Edit) -> Plan {
+    let mut changed = plan;
+    let i = edit.index as usize;
+    if i < 64 {
+        let node = changed.nodes[i];
+        changed.nodes[i] = node_with(node, edit);
+    }
+    changed
+}
+
+fn node_with(node: Node, edit: Edit) -> Node {
+    let what = edit.what;
+    let kind = node.kind;
+    let parent = node.parent;
+    let wanted = node.wanted;
+    let served = node.served;
+    match what {
+        b'k' => Node {
+            kind: kind_of(edit.value),
+            parent,
+            wanted,
+            served,
+        },
+        b'p' => Node {
+            kind,
+            parent: parent_of(edit.value),
+            wanted,
+            served,
+        },
+        b'w' => Node {
+            kind,
+            parent,
+            wanted: type_of(edit),
+            served,
+        },
+        _ => Node {
+            kind,
+            parent,
+            wanted,
+            served: type_of(edit),
+        },
+    }
+}
+
+fn type_of(edit: Edit) -> SlotType {
+    SlotType {
+        c: sixteen(edit.value),
+        t: sixteen(edit.second),
+    }
+}
+
+fn kind_of(n: u64) -> NodeKind {
+    match n {
+        0 => NodeKind::AlignedLeaf,
+        1 => NodeKind::SlidingLeaf,
+        _ => NodeKind::Host,
+    }
+}
+
+// The parent that a parent byte names.
+fn parent_of(n: u64) -> Parent {
+    match n {
+        0..=127 => Parent::Supply(n as u8),
+        128..=255 => Parent::Node((n - 128) as u8),
+        _ => Parent::Node(255),
+    }
+}
+
+fn sixteen(n: u64) -> u16 {
+    if n < 65536 { n as u16 } else { 0 }
+}
+
+fn thirty_two(n: u64) -> u32 {
+    if n < 4294967296 { n as u32 } else { 0 }
+}

@@ -1,0 +1,61 @@
+-- `text::number` is safe and ends: i goes up to the length of the input. Assumes nothing.
+use mathlib.Core.Path.{_≡_}
+use Prim.Native.Nat.{_-_}
+use lib.ListN.{length}
+use borrow.Author.Needs.{needs}
+use Rattle.vectors_plans.proofs.text.number.Statement.{statement}
+use Rattle.vectors_plans.proofs.text.number.Tie as tie
+use Rattle.vectors_plans.proofs.text.longer.Reads as longer-reads
+
+abbrev Inv-loop : tie.InvT-loop
+Inv-loop input at n₀ i₀ i-end n i = i-end ≡ length input
+
+abbrev μ-loop : tie.MeasureT-loop
+μ-loop input at n₀ i₀ i-end n i = i-end - i
+
+loop-holds : tie.Need-loop-holds Inv-loop μ-loop
+loop-holds c = search needs
+
+shared-slice-read-if1 : tie.Need-shared-slice-read-if1 Inv-loop μ-loop
+shared-slice-read-if1 c = search needs
+
+returns : tie.Need-returns Inv-loop μ-loop
+returns c = search needs
+
+shared-slice-read-longer : tie.Need-shared-slice-read-longer Inv-loop μ-loop
+shared-slice-read-longer c = search needs
+
+sub-longer : tie.Need-sub-longer Inv-loop μ-loop
+sub-longer c = search needs
+
+longer-requires : tie.Need-longer-requires Inv-loop μ-loop
+longer-requires c κs = search needs
+
+add-i : tie.Need-add-i Inv-loop μ-loop
+add-i c = search needs
+
+loop-less : tie.Need-loop-less Inv-loop μ-loop
+loop-less c = search needs
+
+loop-again : tie.Need-loop-again Inv-loop μ-loop
+loop-again c = search needs
+
+returns-2 : tie.Need-returns-2 Inv-loop μ-loop
+returns-2 c = search needs
+
+pub number-spec : {M : Type 1} → statement M
+number-spec =
+    tie.close
+    (tie.spec
+    Inv-loop
+    μ-loop
+    loop-holds
+    shared-slice-read-if1
+    returns
+    shared-slice-read-longer
+    sub-longer
+    longer-requires
+    add-i
+    loop-less
+    loop-again
+    returns-2)

@@ -1,0 +1,87 @@
+// Reads the plan files of standard input and prints what `reader` says of each, a line a file: `example 01e8.. 3` is a label, the bytes in hex, and,
+// where it stands there, a node whose name is asked for besides those of an accepted plan.
+// What it must print is worked out from document 01, by `python3 tools/plans.py expect`; `python3 tools/plans.py vectors` makes its input.
+ghost use Prim.Native.Nat.{_<_};
+
+mod show;
+mod text;
+
+fn main() {
+    let mut input = room();
+    let n = io::read_full(libc::STDIN_FILENO, &mut input);
+    let mut file = [0u8; 2800];
+    every_file(&input[..n], &mut file);
+}
+
+// Room for the whole input.
+fn room() -> [u8; 131072] {
+    [0; 131072]
+}
+
+fn every_file(input: &[u8], file: &mut [u8]) {
+    let mut at: usize = 0;
+    while at < input.len() {
+        at = further(at, one_file(input, at, file), input.len());
+    }
+}
+
+// Where to go on: `next`, which lies after `at`, or else the end.
+fn further(at: usize, next: usize, end: usize) -> usize
+    requires { ⌜ at < end ⌝ }
+    ensures { λ r. ⌜ at < r ⌝ }
+{
+    if at < next { next } else { end }
+}
+
+// The file whose label starts at `at`, and where the next label does. `file` is room for its bytes.
+fn one_file(input: &[u8], at: usize, file: &mut [u8]) -> usize {
+    let digits = text::after(input, at);
+    let next = text::after(input, digits);
+    let n = text::bytes(text::word(input, digits), file);
+    show::print(text::word(input, at));
+    show::print(b": ");
+    read(&file[0..n]);
+    if text::is_number(input, next) {
+        ask(&file[0..n], text::number(input, next));
+        show::print(b"\n");
+        return text::after(input, next);
+    }
+    show::print(b"\n");
+    next
+}
+
+// The answer, and the names of an accepted plan.
+fn read(file: &[u8]) {
+    let reading = reader::read(file);
+    let answer = reading.answer;
+    match answer {
+        answers::Answer::Accepted => {
+            show::number(b"accepted ", reading.plan.size);
+            show::print(b":");
+            names(file, reading.plan.size);
+        }
+        answers::Answer::Refused { number, place } => {
+            show::number(b"refused ", number as usize);
+            show::number(b" at ", place);
+        }
+    }
+}
+
+fn names(file: &[u8], size: usize) {
+    for i in 0..size {
+        show::print(b" ");
+        show::print(reader::name(file, i));
+    }
+}
+
+// The name of node i. It is empty where the plan is refused or has no such node.
+fn ask(file: &[u8], i: usize) {
+    let name = reader::name(file, i);
+    show::number(b", node ", i);
+    if name.len() == 0 {
+        show::print(b" has no name");
+    } else {
+        show::print(b" is ");
+        show::print(name);
+    }
+}

@@ -1,0 +1,396 @@
+#!/usr/bin/env python3
+"""Giving out slots from the sentences of document 01, "Giving out slots". It knows nothing of the crates; plans and rules are those of tools/plans.py.
+
+  python3 tools/slots.py cases          the cases of crates/vectors_dispatch/stdin, one a line
+  python3 tools/slots.py expect         what the program of that crate has to print
+
+A case is a label, an accepted plan in hex digits, any number of edits `with WHAT INDEX VALUE`, and what is done: `fresh`, or `run` with supply bytes
+(hex), decline words (hex, a comma between two) and room, or `steps` with supply bytes and decline words; `-` stands for none. The state is the
+plan's fresh one. An edit changes the plan value (P, Q, the numbers S of supplies and N of nodes, supply, kind, parent, wants, gets) or the state
+(clock, left).
+What comes of it is printed as outcome, clock, the counts left (of all nodes, and on to the last that is not 0) and the room: a leaf, `-` idle, `x` not
+supplied, `.` not written; a comma stands between the cores of a slot. Of steps the outcome and eight answers of each come first.
+"""
+import sys
+
+sys.dont_write_bytecode = True
+from plans import EXAMPLE, Node, Refused, chain, depth, lay, names_a_parent, read, rules, siblings, type_of, well_formed
+
+LAST = 2 ** 40
+IDLE, NOT_SUPPLIED, NOT_WRITTEN = 254, 255, 200
+
+
+class Value:
+    """A plan value: two counts and all entries, those past the counts zeros."""
+
+    def __init__(self, plan):
+        self.P, self.Q, self.cores, self.size = plan.P, plan.Q, len(plan.supplies), len(plan.nodes)
+        self.supplies = plan.supplies + [(0, 0)] * (8 - self.cores)
+        self.nodes = plan.nodes + [Node(0, 0, (0, 0), (0, 0))] * (64 - self.size)
+
+    def broken(self):
+        """The number of a refusal from 2 to 7 or 11 to 14 that it breaks, or 0 where it is fit."""
+        supplies, nodes = self.supplies[:self.cores], self.nodes[:self.size]
+        if not (1 <= self.cores <= 8 and 1 <= self.size <= 64):
+            return 2
+        if not (1 <= self.P <= 1_000_000 and 1 <= self.Q <= 1_000_000):
+            return 3
+        if not all(map(well_formed, supplies + [node.wanted for node in nodes] + [node.served for node in nodes])):
+            return 4
+        for i, node in enumerate(nodes):
+            if not names_a_parent(node.parent, supplies, nodes[:i]):
+                return 6
+            if depth(node.parent, nodes) > 8:
+                return 7
+        try:
+            rules(supplies, nodes)
+        except Refused as refused:
+            return refused.number
+        return 0
+
+
+class State:
+    def __init__(self, clock, left):
+        self.clock, self.left = clock, left
+
+
+def fresh(value):
+    """The outcome (0 for done, or a refusal) and the state."""
+    if value.broken():
+        return 16, State(0, [0] * 64)
+    return 0, State(0, [node.served[0] if i < value.size else 0 for i, node in enumerate(value.nodes)])
+
+
+def refusal(value, state, supplied, declined, room):
+    """16, 17 and 15 in this order, or 0."""
+    if value.broken() or state.clock > LAST or any(state.left[i] > value.nodes[i].served[0] for i in range(value.size)):
+        return 16
+    if len(supplied) != len(declined) or room < len(supplied) * value.cores:
+        return 17
+    return 15 if state.clock + len(supplied) > LAST else 0
+
+
+def run(value, state, supplied, declined, room):
+    """The outcome and the room; the state is moved on."""
+    outcome = refusal(value, state, supplied, declined, room)
+    answers = []
+    if outcome == 0:
+        for supply, decline in zip(supplied, declined):
+            answers += slot(value, state, supply, decline)
+    return outcome, answers + [NOT_WRITTEN] * (room - len(answers))
+
+
+def step(value, state, supplied, declined):
+    """A run of one, with eight answers."""
+    outcome, answers = run(value, state, [supplied], [declined], value.cores)
+    answers = [] if outcome else answers
+    return outcome, answers + [NOT_SUPPLIED] * (8 - len(answers))
+
+
+def slot(value, state, supplied, declined):
+    for i, node in enumerate(value.nodes[:value.size]):
+        if state.clock % node.served[1] == 0:
+            state.left[i] = node.served[0]
+    state.clock += 1
+    return [walk(value, state, k, declined) if supplied >> k & 1 else NOT_SUPPLIED for k in range(value.cores)]
+
+
+def walk(value, state, parent, declined):
+    """Who gets the slot of a parent, named as a parent byte names it."""
+    takers = [(node.served[1], i) for i, node in enumerate(value.nodes[:value.size])
+              if node.parent == parent and state.left[i] > 0 and (node.kind == 2 or not declined >> i & 1)]
+    if not takers:
+        return IDLE
+    _, i = min(takers)
+    state.left[i] -= 1
+    return walk(value, state, 128 + i, declined) if value.nodes[i].kind == 2 else i
+
+
+# Cases
+
+
+class Case:
+    def __init__(self, label, plan, edits, verb, supplied=(), declined=(), room=0):
+        self.label, self.data, self.edits, self.verb = label, lay(plan), edits, verb
+        self.supplied, self.declined, self.room = supplied, declined, room
+        assert len(supplied) <= 64 and len(declined) <= 64 and room <= 512, label
+
+    def line(self):
+        words = [self.label, self.data.hex()] + [f"with {edit}" for edit in self.edits] + [self.verb]
+        if self.verb != "fresh":
+            words += [bytes(self.supplied).hex() or "-", ",".join(f"{word:x}" for word in self.declined) or "-"]
+        return " ".join(words + ([str(self.room)] if self.verb == "run" else []))
+
+    def said(self):
+        value = Value(read(self.data))
+        state = fresh(value)[1]
+        for edit in self.edits:
+            edited(value, state, *edit.split())
+        if self.verb == "fresh":
+            outcome, state = fresh(value)
+            return f"{self.label}: {called(outcome)}, {counted(value, state)}"
+        if self.verb == "run":
+            outcome, room = run(value, state, self.supplied, self.declined, self.room)
+            return f"{self.label}: {called(outcome)}, {counted(value, state)}, room{listed(room, value.cores)}"
+        steps = [step(value, state, *both) for both in zip(self.supplied, self.declined)]
+        return f"{self.label}: " + "".join(f"step {called(outcome)}{listed(eight, 8)}, " for outcome, eight in steps) + counted(value, state)
+
+
+def edited(value, state, what, index, number):
+    i, node = int(index), value.nodes[int(index)]
+    if what in ("P", "Q", "S", "N"):
+        setattr(value, {"S": "cores", "N": "size"}.get(what, what), int(number))
+    elif what == "supply":
+        value.supplies[i] = type_of(number)
+    elif what in ("kind", "parent"):
+        value.nodes[i] = node._replace(**{what: int(number)})
+    elif what in ("wants", "gets"):
+        value.nodes[i] = node._replace(**{{"wants": "wanted", "gets": "served"}[what]: type_of(number)})
+    elif what == "clock":
+        state.clock = int(number)
+    else:
+        assert what == "left", what
+        state.left[i] = int(number)
+
+
+def called(outcome):
+    return f"refused {outcome}" if outcome else "done"
+
+
+def counted(value, state):
+    last = max([i + 1 for i, left in enumerate(state.left) if left] + [min(value.size, 64)])
+    return f"clock {state.clock}, left" + "".join(f" {left}" for left in state.left[:last])
+
+
+def listed(answers, cores):
+    names = {IDLE: "-", NOT_SUPPLIED: "x", NOT_WRITTEN: "."}
+    return "".join((" " if cores == 0 or j % cores == 0 else ",") + names.get(answer, str(answer)) for j, answer in enumerate(answers))
+
+
+TWO = """\
+supply 1/1
+supply 1/2
+host doors on 0 wants 2/4 gets 2/4
+aligned front in doors wants 1/4 gets 1/4
+aligned rear in doors wants 1/8 gets 1/8
+aligned log on 0 wants 1/2 gets 1/2
+sliding panel on 1 wants 1/8 gets 1/4
+aligned media on 1 wants 1/8 gets 1/8
+"""
+TIES = "supply 1/1; aligned a on 0 wants 1/6 gets 1/6; aligned b on 0 wants 1/3 gets 1/3; " \
+       "aligned c on 0 wants 1/3 gets 1/3; aligned d on 0 wants 1/6 gets 1/6\n"
+EIGHT = "".join(f"supply {k + 1}/8\n" for k in range(8)) + "".join(f"aligned n{k} on {k} wants {k + 1}/8 gets {k + 1}/8\n" for k in range(8))
+NOBODY = "supply 1/1; supply 1/1; host h on 0 wants 1/2 gets 1/2; aligned a on 0 wants 0/2 gets 0/2; aligned b on 0 wants 1/4 gets 1/4\n"
+WIDE = "supply 1/1\n" + "".join(f"aligned n{i} on 0 wants 1/64 gets 1/64\n" for i in range(64))
+TREE = """\
+supply 1/1
+supply 3/4
+supply 1/1
+host a on 0 wants 1/2 gets 1/2
+host b in a wants 1/4 gets 1/4
+aligned c in b wants 1/8 gets 1/8
+sliding d in b wants 0/8 gets 1/16
+aligned e in a wants 2/8 gets 2/8
+aligned f on 0 wants 2/4 gets 2/4
+host g on 1 wants 2/4 gets 2/4
+host h on 1 wants 1/8 gets 2/8
+aligned i in g wants 3/8 gets 3/8
+aligned j in h wants 1/8 gets 1/8
+sliding k in g wants 0/2 gets 1/8
+aligned l on 2 wants 5/6 gets 5/6
+aligned m on 2 wants 1/12 gets 1/12
+"""
+
+
+def cases():
+    found = []
+
+    def run_case(label, plan, slots, supply=0xff, decline=0, edits=(), room=None, steps=True):
+        """Slots with the same supply byte and decline word, or with a list of each; as a run, and as steps too."""
+        supplied = supply if isinstance(supply, list) else [supply] * slots
+        declined = decline if isinstance(decline, list) else [decline] * slots
+        cores = len(read(lay(plan)).supplies)
+        found.append(Case(label, plan, edits, "run", supplied, declined, slots * cores if room is None else room))
+        if steps and supplied and room is None and len(supplied) == len(declined):
+            found.append(Case(label + "-by-steps", plan, edits, "steps", supplied, declined))
+
+    for group in (plain, declining, supplying, trees, states, refused_plans, refused_runs, orders, varied):
+        group(run_case)
+    for label, plan, edits in fresh_starts():
+        found.append(Case(label, plan, edits, "fresh"))
+    assert len({case.label for case in found}) == len(found)
+    return found
+
+
+def plain(case):
+    case("example", EXAMPLE, 8)
+    case("ties-go-to-the-lower-number", TIES, 12)
+    case("two-cores", TWO, 16)
+    case("eight-cores", EIGHT, 10)
+    case("a-leaf-of-64", WIDE, 64, steps=False)
+    case("full-type", "supply 1/1; aligned a on 0 wants 4096/4096 gets 4096/4096\n", 3)
+    case("period-1", "supply 1/1; aligned a on 0 wants 1/1 gets 1/1; aligned b on 0 wants 0/1 gets 0/1\n", 3)
+    case("C-0-and-a-host-with-no-children", NOBODY, 8)
+    case("refill-only-at-the-served-period", siblings("1/1", "2/5", "1/5"), 16)
+
+
+def declining(case):
+    case("door-declines-once", EXAMPLE, 8, decline=[0, 0, 4, 0, 0, 0, 0, 0])
+    case("door-declines-always", EXAMPLE, 8, decline=4)
+    case("log-declines-always-and-its-host-is-charged", EXAMPLE, 8, decline=2)
+    case("log-declines-the-first-slot", EXAMPLE, 8, decline=[2, 0, 0, 0, 0, 0, 0, 0])
+    case("all-leaves-decline", EXAMPLE, 5, decline=6)
+    case("a-host's-decline-bit-is-ignored", EXAMPLE, 8, decline=1)
+    case("bits-naming-no-leaf-are-ignored", EXAMPLE, 8, decline=2 ** 64 - 8)
+    case("all-bits-set", EXAMPLE, 5, decline=2 ** 64 - 1)
+    case("leaf-63-declines", WIDE, 64, decline=2 ** 63, steps=False)
+    case("all-but-leaf-63-decline", WIDE, 3, decline=2 ** 63 - 1)
+    case("a-tie-where-the-lower-declines", TIES, 6, decline=[2, 2, 0, 0, 2, 0])
+    case("front-declines-and-rear-takes-it", TWO, 8, decline=2)
+    case("leaves-of-two-cores-decline", TWO, 8, decline=[8, 16, 8 + 16, 32, 0, 2, 4, 2 + 4])
+
+
+def supplying(case):
+    case("never-supplied", EXAMPLE, 8, supply=0)
+    case("supplied-every-second-slot", EXAMPLE, 8, supply=[1, 0] * 4)
+    case("bits-naming-no-supply-are-ignored", EXAMPLE, 8, supply=0xfe)
+    case("only-the-last-slots-of-the-period", EXAMPLE, 8, supply=[0, 0, 1, 1] * 2)
+    case("first-core-only", TWO, 8, supply=1)
+    case("second-core-only", TWO, 8, supply=2)
+    case("third-core-that-is-not-there", TWO, 4, supply=4)
+    case("core-with-no-node-is-idle", NOBODY, 4, supply=2)
+    case("one-core-of-eight-a-slot", EIGHT, 8, supply=[1 << k for k in range(8)])
+
+
+def trees(case):
+    case("depth-8", chain(8), 4)
+    case("depth-8-the-leaf-declines", chain(8), 4, decline=0x80)
+    case("depth-8-a-host-at-the-end", chain(8, "host"), 4)
+    case("depth-8-every-host's-bit-set", chain(8), 4, decline=0x7f)
+    case("idle-hosts-stay-charged", TREE, 16, decline=0b100)
+    case("tree", TREE, 24)
+
+
+def states(case):
+    case("entries-past-the-last-node", EXAMPLE, 4, edits=("left 3 7", "left 63 65535"))
+    case("entries-past-the-last-node-and-no-slots", EXAMPLE, 0, edits=("left 3 1",))
+    case("state-at-clock-1-as-fresh", EXAMPLE, 8, edits=("clock 0 1",))
+    case("state-at-clock-3-with-nothing-left", EXAMPLE, 3, edits=("clock 0 3", "left 0 0", "left 1 0", "left 2 0"))
+    case("state-at-clock-4-with-nothing-left", EXAMPLE, 3, edits=("clock 0 4", "left 0 0", "left 1 0", "left 2 0"))
+    case("no-slots", EXAMPLE, 0)
+    case("no-slots-and-no-refill", EXAMPLE, 0, edits=("clock 0 4", "left 0 0", "left 2 1"))
+    case("no-slots-and-room", EXAMPLE, 0, room=3)
+    case("no-slots-at-the-last-clock", EXAMPLE, 0, edits=("clock 0 1099511627776",))
+    case("last-slot-of-all", EXAMPLE, 1, edits=("clock 0 1099511627775",))
+    case("last-two-slots-of-all", EXAMPLE, 2, edits=("clock 0 1099511627774",))
+    case("room-beyond-stays", EXAMPLE, 4, room=9)
+    case("room-beyond-stays-with-two-cores", TWO, 3, room=7)
+    case("junk-past-the-last-supply", EXAMPLE, 4, edits=("supply 1 5/4", "supply 7 65535/0"))
+    case("junk-past-the-last-node", EXAMPLE, 8, edits=("kind 3 2", "parent 3 255", "wants 3 9/0", "gets 63 1/1", "parent 63 0"))
+    case("supply-and-leaf-of-C-0", "supply 0/4; aligned a on 0 wants 0/4 gets 0/4\n", 2)
+    case("tick-at-its-limits", EXAMPLE, 2, edits=("P 0 1000000", "Q 0 1"))
+
+
+SPOILT = (  # edits of the example, each beside the number that the value then breaks
+    (2, "no-supplies", "S 0 0"), (2, "9-supplies", "S 0 9"), (2, "no-nodes", "N 0 0"), (2, "65-nodes", "N 0 65"),
+    (2, "very-many-nodes", "N 0 1000000000000"), (2, "very-many-supplies", "S 0 18446744073709551615"),
+    (3, "P-0", "P 0 0"), (3, "P-1000001", "P 0 1000001"), (3, "P-largest", "P 0 4294967295"), (3, "Q-0", "Q 0 0"), (3, "Q-1000001", "Q 0 1000001"),
+    (4, "a-supply-of-zeros", "S 0 2"), (4, "a-node-of-zeros", "N 0 4"), (4, "supply-T-0", "supply 0 0/0"), (4, "supply-T-4097", "supply 0 4097/4097"),
+    (4, "supply-C-over-T", "supply 0 2/1"), (4, "wanted-T-0", "wants 1 0/0"), (4, "wanted-C-over-T", "wants 2 11/10"),
+    (4, "served-T-4097", "gets 2 2/4097"), (4, "served-C-over-T", "gets 1 5/4"), (6, "parent-supply-1", "parent 2 1"),
+    (6, "parent-supply-127", "parent 0 127"), (6, "parent-itself", "parent 0 128"), (6, "parent-a-leaf", "parent 2 129"),
+    (6, "parent-later", "parent 1 130"), (6, "parent-far-away", "parent 1 255"), (6, "host-a-leaf", "kind 0 0"),
+    (11, "rule-11", "wants 2 5/10"), (11, "rule-11-at-the-host", "wants 0 3/5"), (12, "rule-12", "wants 0 1/8"),
+    (13, "rule-13", "gets 2 6/6"), (14, "rule-14", "gets 0 3/4"), (14, "rule-14-in-the-host", "wants 0 0/4"))
+
+
+def refused_plans(case):
+    for number, label, edit in SPOILT:
+        value = Value(read(lay(EXAMPLE)))
+        edited(value, State(0, []), *edit.split())
+        assert value.broken() == number, (label, value.broken())
+        case("plan-value-" + label, EXAMPLE, 2, edits=(edit,), room=2)
+    case("plan-value-rule-13-and-not-11", siblings("1/1", "1/4", "1/8"), 2, edits=("gets 1 2/6", "wants 1 0/8"))
+    case("plan-value-rule-11-by-the-kind", siblings("1/1", "2/4"), 2, edits=("kind 0 1",))
+    case("plan-value-depth-9", chain(8, "host") + "aligned x in h6 wants 0/2 gets 0/2\n", 1, edits=("parent 8 135",))
+    case("plan-value-changed-and-fit", EXAMPLE, 8, edits=("gets 1 2/4", "kind 1 1", "wants 2 0/1"))
+    case("plan-value-with-a-node-less", EXAMPLE, 8, edits=("N 0 2",))
+    case("plan-value-by-a-step", EXAMPLE, 1, edits=("P 0 0",))
+    case("plan-value-by-a-step-with-9-supplies", EXAMPLE, 1, edits=("S 0 9",))
+
+
+def refused_runs(case):
+    case("left-over-the-served-C", EXAMPLE, 2, edits=("left 1 2",))
+    case("left-over-the-served-C-at-the-last-node", EXAMPLE, 2, edits=("left 2 3",))
+    case("left-far-over-the-served-C", EXAMPLE, 2, edits=("left 0 65535",))
+    case("left-over-the-served-C-and-no-slots", EXAMPLE, 0, edits=("left 1 2",))
+    case("left-over-though-the-slot-would-refill", EXAMPLE, 1, edits=("clock 0 4", "left 1 2"))
+    case("clock-over", EXAMPLE, 1, edits=("clock 0 1099511627777",))
+    case("clock-over-and-no-slots", EXAMPLE, 0, edits=("clock 0 1099511627777",))
+    case("clock-largest", EXAMPLE, 1, edits=("clock 0 18446744073709551615",))
+    case("one-decline-word-too-few", EXAMPLE, 3, decline=[0, 0], room=3)
+    case("one-decline-word-too-many", EXAMPLE, 2, decline=[0, 0, 0], room=3)
+    case("a-decline-word-and-no-slots", EXAMPLE, 0, decline=[0], room=3)
+    case("no-decline-words", EXAMPLE, 2, decline=[], room=3)
+    case("no-supply-bytes", EXAMPLE, 0, supply=[], decline=[0, 0], room=3)
+    case("room-too-little-by-one", EXAMPLE, 4, room=3)
+    case("room-too-little-by-one-with-two-cores", TWO, 4, room=7)
+    case("room-too-little-by-one-with-eight-cores", EIGHT, 3, room=23)
+    case("no-room", EXAMPLE, 1, room=0)
+    case("beyond-the-last-slot", EXAMPLE, 1, edits=("clock 0 1099511627776",))
+    case("beyond-the-last-slot-by-one", EXAMPLE, 3, edits=("clock 0 1099511627774",))
+
+
+def orders(case):
+    """Two faults and more, of which the document's order picks one."""
+    last, over, bad = "clock 0 1099511627776", "clock 0 1099511627777", "left 1 2"
+    case("16-by-the-counts-before-17", EXAMPLE, 2, edits=(bad,), room=1)
+    case("16-by-the-clock-before-17", EXAMPLE, 2, decline=[0], edits=(over,), room=2)
+    case("16-by-the-plan-before-17", EXAMPLE, 2, edits=("P 0 0",), room=1)
+    case("16-by-the-counts-before-15", EXAMPLE, 2, edits=(bad, last))
+    case("16-by-the-plan-before-15", EXAMPLE, 2, edits=("Q 0 0", last))
+    case("17-by-the-room-before-15", EXAMPLE, 2, edits=(last,), room=1)
+    case("17-by-unequal-inputs-before-15", EXAMPLE, 2, decline=[0], edits=(last,), room=2)
+    case("17-by-unequal-inputs-with-room-for-all", EXAMPLE, 1, decline=[0, 0], room=9)
+    case("16-before-17-and-15", EXAMPLE, 2, edits=(bad, last), room=0)
+
+
+def varied(case):
+    """Supplies and declines that follow no pattern, from a plain generator of numbers."""
+    seed = 1
+
+    def number(bits):
+        nonlocal seed
+        seed = (seed * 6364136223846793005 + 1442695040888963407) % 2 ** 64
+        return seed >> (64 - bits)
+
+    plans = ("example", EXAMPLE, 48), ("two-cores", TWO, 48), ("tree", TREE, 48), ("eight-cores", EIGHT, 32), ("depth-8", chain(8), 16)
+    for name, plan, slots in plans:
+        for turn in range(2):
+            supplied = [number(8) | number(8) for _ in range(slots)]
+            case(f"varied-{name}-{turn}", plan, slots, supply=supplied, decline=[number(64) & number(64) for _ in range(slots)], steps=turn == 0)
+
+
+def fresh_starts():
+    yield "fresh-example", EXAMPLE, ()
+    yield "fresh-tree", TREE, ()
+    yield "fresh-longest-counts", "supply 1/1; aligned a on 0 wants 4096/4096 gets 4096/4096\n", ()
+    for _, label, edit in SPOILT:
+        yield "fresh-" + label, EXAMPLE, (edit,)
+    yield "fresh-ignores-junk", EXAMPLE, ("kind 3 2", "gets 3 9/0", "supply 1 9/0")
+    yield "fresh-whatever-the-state-was", EXAMPLE, ("clock 0 5", "left 0 0")
+
+
+def main(words):
+    if words == ["cases"]:
+        text = "\n".join(case.line() for case in cases())
+        assert len(text) < 131072, "the program reads no more"
+        print(text)
+    elif words == ["expect"]:
+        print("\n".join(case.said() for case in cases()))
+    else:
+        sys.exit(__doc__)
+
+
+if __name__ == "__main__":
+    main(sys.argv[1:])

@@ -1,7 +1,8 @@
 // Makes the calls of `dispatch` and prints their results.
+ghost use Prim.Native.Nat.{_≤_};
+ghost use lib.ListN.{length};
 use crate::edits::Case;
 use crate::show;
-use crate::text;
 
 pub fn fresh(case: Case) {
     let ran = dispatch::fresh(case.plan);
@@ -35,8 +36,8 @@ fn run_on(
     declined: &mut [u64],
     out: &mut [u8],
 ) {
-    let k = text::bytes(supplies, supplied);
-    let d = text::hex_words(declines, declined);
+    let k = lines::bytes(supplies, supplied);
+    let d = hex_words(declines, declined);
     let ran = dispatch::run(case.plan, case.state, &supplied[0..k], &declined[0..d], out);
     show::ran(ran, case.plan.size);
     show::print(b", room");
@@ -57,13 +58,13 @@ fn steps_on(
     supplied: &mut [u8],
     declined: &mut [u64],
 ) {
-    let k = text::bytes(supplies, supplied);
-    let d = text::hex_words(declines, declined);
+    let k = lines::bytes(supplies, supplied);
+    let d = hex_words(declines, declined);
     each_step(case, &supplied[0..k], &declined[0..d]);
 }
 
 fn each_step(case: Case, supplied: &[u8], declined: &[u64]) {
-    let n = text::least(supplied.len(), declined.len());
+    let n = lines::least(supplied.len(), declined.len());
     let mut state = case.state;
     for i in 0..n {
         let stepped = dispatch::step(case.plan, state, supplied[i], declined[i]);
@@ -71,4 +72,21 @@ fn each_step(case: Case, supplied: &[u8], declined: &[u64]) {
         state = stepped.state;
     }
     show::state(state, case.plan.size);
+}
+
+// Puts the numbers that the word's hex digits spell, a comma between two, at the start of `out`, and says how many they are: none for `-`.
+fn hex_words(word: &[u8], out: &mut [u64]) -> usize
+    ensures { λ r. ⌜ r ≤ length (now (out .exit)) ⌝ }
+{
+    let mut at: usize = 0;
+    let mut n: usize = 0;
+    while n < out.len() {
+        if lines::byte(word, at) < b'0' {
+            return n;
+        }
+        out[n] = lines::hex(word, at, b',');
+        at = lines::past(word, at, b',');
+        n += 1;
+    }
+    n
 }

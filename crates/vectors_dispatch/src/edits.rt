@@ -1,7 +1,6 @@
 // Edits of a case: `with WHAT INDEX VALUE` changes the plan value or the state, to something that a reader would refuse too.
 ghost use Prim.Native.Nat.{_<_};
 ghost use lib.ListN.{length};
-use crate::text;
 use dispatch::State;
 use meaning::SlotType;
 use plans::Node;
@@ -24,42 +23,44 @@ pub struct Edit {
     pub second: u64,
 }
 
-pub fn all(input: &[u8], case: Case) -> Case {
+pub fn all(line: &[u8], case: Case) -> Case {
     let mut now = case;
-    while now.next < input.len() {
+    while now.next < line.len() {
         let at = now.next;
-        if input[at] != b'w' {
+        if line[at] != b'w' {
             return now;
         }
-        now = one(input, now);
+        now = one(line, now);
     }
     now
 }
 
-fn one(input: &[u8], case: Case) -> Case
-    requires { ⌜ case .next < length (now input) ⌝ }
+fn one(line: &[u8], case: Case) -> Case
+    requires { ⌜ case .next < length (now line) ⌝ }
     ensures { λ r. ⌜ case .next < r .next ⌝ }
 {
-    let at = case.next;
-    let what = text::after(input, at);
-    let edit = edit_at(input, what);
-    let end = text::after(input, text::after(input, text::after(input, what)));
+    let what = lines::past(line, case.next, b' ');
+    let index = lines::past(line, what, b' ');
+    let value = lines::past(line, index, b' ');
+    let edit = edit_of(
+        lines::byte(line, what),
+        lines::decimal(line, index, b' '),
+        lines::part(line, value, b' '),
+    );
     Case {
         plan: plan_with(case.plan, edit),
         state: state_with(case.state, edit),
-        next: text::further(at, end, input.len()),
+        next: lines::past(line, value, b' '),
     }
 }
 
-// The edit whose three words start at `what`.
-fn edit_at(input: &[u8], what: usize) -> Edit {
-    let index = text::after(input, what);
-    let value = text::word(input, text::after(input, index));
+// The edit whose value the word spells, as `2` or `1/4`.
+fn edit_of(what: u8, index: u64, word: &[u8]) -> Edit {
     Edit {
-        what: text::byte(input, what),
-        index: text::number(input, index),
-        value: text::number(value, 0),
-        second: text::number(value, text::past(value, 0, b'/')),
+        what,
+        index,
+        value: lines::decimal(word, 0, b'/'),
+        second: lines::decimal(word, lines::past(word, 0, b'/'), b'/'),
     }
 }
 
@@ -83,7 +84,7 @@ fn left_with(left: [u16; 64], edit: Edit) -> [u16; 64] {
     let mut changed = left;
     let i = edit.index as usize;
     if i < 64 {
-        changed[i] = sixteen(edit.value);
+        changed[i] = lines::sixteen(edit.value);
     }
     changed
 }
@@ -176,8 +177,8 @@ fn node_with(node: Node, edit: Edit) -> Node {
 
 fn type_of(edit: Edit) -> SlotType {
     SlotType {
-        c: sixteen(edit.value),
-        t: sixteen(edit.second),
+        c: lines::sixteen(edit.value),
+        t: lines::sixteen(edit.second),
     }
 }
 
@@ -196,10 +197,6 @@ fn parent_of(n: u64) -> Parent {
         128..=255 => Parent::Node((n - 128) as u8),
         _ => Parent::Node(255),
     }
-}
-
-fn sixteen(n: u64) -> u16 {
-    if n < 65536 { n as u16 } else { 0 }
 }
 
 fn thirty_two(n: u64) -> u32 {

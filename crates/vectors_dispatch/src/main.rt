@@ -4,7 +4,6 @@
 mod calls;
 mod edits;
 mod show;
-mod text;
 
 use edits::Case;
 
@@ -22,57 +21,43 @@ fn room() -> [u8; 131072] {
 fn every_case(input: &[u8]) {
     let mut at: usize = 0;
     while at < input.len() {
-        at = text::further(at, one_case(input, at), input.len());
+        one_case(lines::part(input, at, b'\n'));
+        at = lines::past(input, at, b'\n');
     }
 }
 
-// The case whose label starts at `at`, and where the next label does.
-fn one_case(input: &[u8], at: usize) -> usize {
-    let digits = text::after(input, at);
+// The case of a line.
+fn one_case(line: &[u8]) {
+    let digits = lines::past(line, 0, b' ');
     let mut file = [0u8; 2800];
-    let plan = read(text::word(input, digits), &mut file);
+    let plan = read(lines::part(line, digits, b' '), &mut file);
     let state = dispatch::fresh(plan).state;
-    let next = text::after(input, digits);
-    show::print(text::word(input, at));
+    let next = lines::past(line, digits, b' ');
+    show::print(lines::part(line, 0, b' '));
     show::print(b": ");
-    let after = call(input, edits::all(input, Case { plan, state, next }));
+    call(line, edits::all(line, Case { plan, state, next }));
     show::print(b"\n");
-    after
 }
 
 // The plan value of a word of hex digits; `file` is room for its bytes.
 fn read(word: &[u8], file: &mut [u8]) -> plans::Plan {
-    let n = text::bytes(word, file);
+    let n = lines::bytes(word, file);
     reader::read(&file[0..n]).plan
 }
 
-// Makes the call that is asked for, and says where the words after it start.
-fn call(input: &[u8], case: Case) -> usize {
+// Makes the call that is asked for.
+fn call(line: &[u8], case: Case) {
     let at = case.next;
-    let supplies = text::after(input, at);
-    let declines = text::after(input, supplies);
-    let rest = text::after(input, declines);
-    match text::byte(input, at) {
-        b'f' => {
-            calls::fresh(case);
-            supplies
-        }
+    let supplies = lines::past(line, at, b' ');
+    let declines = lines::past(line, supplies, b' ');
+    let supplied = lines::part(line, supplies, b' ');
+    let declined = lines::part(line, declines, b' ');
+    match lines::byte(line, at) {
+        b'f' => calls::fresh(case),
         b'r' => {
-            calls::run(
-                case,
-                text::word(input, supplies),
-                text::word(input, declines),
-                text::number(input, rest),
-            );
-            text::after(input, rest)
+            let room = lines::past(line, declines, b' ');
+            calls::run(case, supplied, declined, lines::decimal(line, room, b' '));
         }
-        _ => {
-            calls::steps(
-                case,
-                text::word(input, supplies),
-                text::word(input, declines),
-            );
-            rest
-        }
+        _ => calls::steps(case, supplied, declined),
     }
 }

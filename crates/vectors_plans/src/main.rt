@@ -1,10 +1,7 @@
 // Reads the plan files of standard input and prints what `reader` says of each, a line a file: `example 01e8.. 3` is a label, the bytes in hex, and,
 // where it stands there, a node whose name is asked for besides those of an accepted plan.
 // What it must print is worked out from document 01, by `python3 tools/plans.py expect`; `python3 tools/plans.py vectors` makes its input.
-ghost use Prim.Native.Nat.{_<_};
-
 mod show;
-mod text;
 
 fn main() {
     let mut input = room();
@@ -21,33 +18,23 @@ fn room() -> [u8; 131072] {
 fn every_file(input: &[u8], file: &mut [u8]) {
     let mut at: usize = 0;
     while at < input.len() {
-        at = further(at, one_file(input, at, file), input.len());
+        one_file(lines::part(input, at, b'\n'), file);
+        at = lines::past(input, at, b'\n');
     }
 }
 
-// Where to go on: `next`, which lies after `at`, or else the end.
-fn further(at: usize, next: usize, end: usize) -> usize
-    requires { ⌜ at < end ⌝ }
-    ensures { λ r. ⌜ at < r ⌝ }
-{
-    if at < next { next } else { end }
-}
-
-// The file whose label starts at `at`, and where the next label does. `file` is room for its bytes.
-fn one_file(input: &[u8], at: usize, file: &mut [u8]) -> usize {
-    let digits = text::after(input, at);
-    let next = text::after(input, digits);
-    let n = text::bytes(text::word(input, digits), file);
-    show::print(text::word(input, at));
+// The file of a line. `file` is room for its bytes.
+fn one_file(line: &[u8], file: &mut [u8]) {
+    let digits = lines::past(line, 0, b' ');
+    let node = lines::past(line, digits, b' ');
+    let n = lines::bytes(lines::part(line, digits, b' '), file);
+    show::print(lines::part(line, 0, b' '));
     show::print(b": ");
     read(&file[0..n]);
-    if text::is_number(input, next) {
-        ask(&file[0..n], text::number(input, next));
-        show::print(b"\n");
-        return text::after(input, next);
+    if node < line.len() {
+        ask(&file[0..n], lines::decimal(line, node, b' ') as usize);
     }
     show::print(b"\n");
-    next
 }
 
 // The answer, and the names of an accepted plan.

@@ -1,12 +1,10 @@
 // Runs the calls of `types` on the pairs of standard input and prints what each says, a line a pair: `aligned 1 4 aligned 1 5` is decided with
 // room for any stretch, `.. room 8` with a buffer of 8 bytes that is printed whole afterwards, and `.. judge` is judged.
 // What it must print is worked out from the meaning of types, by `python3 tools/pairs.py file crates/vectors_types/stdin`.
-ghost use Prim.Native.Nat.{_<_};
-
 mod show;
-mod text;
+mod sides;
 
-use text::Side;
+use sides::Side;
 
 fn main() {
     let mut input = io::large_buffer();
@@ -17,38 +15,27 @@ fn main() {
 fn every_pair(input: &[u8]) {
     let mut at: usize = 0;
     while at < input.len() {
-        at = further(at, one_pair(input, at), input.len());
+        one_pair(lines::part(input, at, b'\n'));
+        at = lines::past(input, at, b'\n');
     }
 }
 
-// Where to go on: `next`, which lies after `at`, or else the end.
-fn further(at: usize, next: usize, end: usize) -> usize
-    requires { ⌜ at < end ⌝ }
-    ensures { λ r. ⌜ at < r ⌝ }
-{
-    if at < next { next } else { end }
-}
-
-// The pair whose words start at `at`, and where the next pair's do.
-fn one_pair(input: &[u8], at: usize) -> usize {
-    let giver = text::one_side(input, at);
-    let wanted = text::one_side(input, giver.next);
+// The pair of a line.
+fn one_pair(line: &[u8]) {
+    let giver = sides::one_side(line, 0);
+    let wanted = sides::one_side(line, giver.next);
     let next = wanted.next;
     show::pair(giver, wanted);
-    match text::byte(input, next) {
-        b'r' => {
-            let room = text::after(input, next);
-            in_room(giver, wanted, text::number(input, room));
-            text::after(input, room)
-        }
-        b'j' => {
-            judged(giver, wanted);
-            text::after(input, next)
-        }
+    match lines::byte(line, next) {
+        b'r' => in_room(
+            giver,
+            wanted,
+            lines::decimal(line, lines::past(line, next, b' '), b' '),
+        ),
+        b'j' => judged(giver, wanted),
         _ => {
             let mut out = sevens();
             decided(giver, wanted, &mut out);
-            next
         }
     }
 }
@@ -74,7 +61,7 @@ fn decided(giver: Side, wanted: Side, out: &mut [u8]) {
 }
 
 // The answer with a buffer of `room` bytes, and all of the buffer.
-fn in_room(giver: Side, wanted: Side, room: u32) {
+fn in_room(giver: Side, wanted: Side, room: u64) {
     let mut out = sevens();
     show::print(b" in room ");
     show::number(room);

@@ -1,15 +1,15 @@
 // Prints pairs, answers and bytes.
 ghost use Prim.Native.Nat.{_<_, _≤_};
 ghost use lib.ListN.{length};
-use crate::text::Side;
+use crate::sides::Side;
 use meaning::Kind;
 
 pub fn print(words: &[u8]) {
     io::write_all(libc::STDOUT_FILENO, words);
 }
 
-pub fn number(n: u32) {
-    io::print_decimal(libc::STDOUT_FILENO, n as u64);
+pub fn number(n: u64) {
+    io::print_decimal(libc::STDOUT_FILENO, n);
 }
 
 // `aligned 1/4 for aligned 1/5`
@@ -26,9 +26,9 @@ fn one_side(a: Side) {
         Kind::Aligned => print(b"aligned "),
         Kind::Sliding => print(b"sliding "),
     }
-    number(s.c as u32);
+    number(s.c as u64);
     print(b"/");
-    number(s.t as u32);
+    number(s.t as u64);
 }
 
 pub fn decision(answer: types::Decision) {
@@ -40,10 +40,10 @@ pub fn decision(answer: types::Decision) {
             length,
         } => {
             print(b"fails at ");
-            number(start);
+            number(start as u64);
             counted(b" with ", ones);
             print(b" of ");
-            number(length);
+            number(length as u64);
         }
         types::Decision::Refused { number, place } => refused(number, place),
     }
@@ -59,16 +59,16 @@ pub fn verdict(answer: types::Verdict) {
 
 fn counted(words: &[u8], n: u16) {
     print(words);
-    number(n as u32);
+    number(n as u64);
 }
 
 // The number of a refusal, and its place where it has one.
 fn refused(n: u8, place: u8) {
     print(b"refused ");
-    number(n as u32);
+    number(n as u64);
     if place != 255 {
         print(b" place ");
-        number(place as u32);
+        number(place as u64);
     }
 }
 
@@ -117,14 +117,14 @@ fn part(s: &[u8]) -> usize
     print(b" ");
     times(s[one], two - one);
     print(b")x");
-    io::print_decimal(libc::STDOUT_FILENO, (all / two) as u64);
+    number((all / two) as u64);
     all
 }
 
 fn times(byte: u8, n: usize) {
-    number(byte as u32);
+    number(byte as u64);
     print(b"x");
-    io::print_decimal(libc::STDOUT_FILENO, n as u64);
+    number(n as u64);
 }
 
 // How many bytes at the front are the same.

@@ -1,4 +1,4 @@
--- `every_case` is safe and ends: at rises with each case. Assumes nothing.
+-- `every_case` is safe and ends: at rises with each line. Assumes nothing.
 use Prim.Native.Nat.{_-_}
 use lib.ListN.{length}
 use borrow.Author.Needs.{needs}
@@ -14,11 +14,14 @@ abbrev μ-loop : tie.MeasureT-loop
 loop-holds : tie.Need-loop-holds Inv-loop μ-loop
 loop-holds c = search needs
 
+part-requires : tie.Need-part-requires Inv-loop μ-loop
+part-requires c κs = search needs
+
 one-case-requires : tie.Need-one-case-requires Inv-loop μ-loop
 one-case-requires c κs = search needs
 
-further-requires : tie.Need-further-requires Inv-loop μ-loop
-further-requires c κs = search needs
+past-requires : tie.Need-past-requires Inv-loop μ-loop
+past-requires c κs = search needs
 
 loop-less : tie.Need-loop-less Inv-loop μ-loop
 loop-less c = search needs
@@ -36,8 +39,9 @@ every-case-spec =
     Inv-loop
     μ-loop
     loop-holds
+    part-requires
     one-case-requires
-    further-requires
+    past-requires
     loop-less
     loop-again
     returns)

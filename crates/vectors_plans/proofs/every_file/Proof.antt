@@ -1,4 +1,4 @@
--- `every_file` is safe and ends: at rises with each file, and the room for bytes keeps its length. Assumes nothing.
+-- `every_file` is safe and ends: at rises with each line, and the room for bytes keeps its length. Assumes nothing.
 use mathlib.Core.Path.{_≡_}
 use Prim.Native.Nat.{_-_}
 use lib.ListN.{length}
@@ -15,11 +15,14 @@ abbrev μ-loop : tie.MeasureT-loop
 loop-holds : tie.Need-loop-holds Inv-loop μ-loop
 loop-holds c = search needs
 
+part-requires : tie.Need-part-requires Inv-loop μ-loop
+part-requires c κs = search needs
+
 one-file-requires : tie.Need-one-file-requires Inv-loop μ-loop
 one-file-requires c κs = search needs
 
-further-requires : tie.Need-further-requires Inv-loop μ-loop
-further-requires c κs = search needs
+past-requires : tie.Need-past-requires Inv-loop μ-loop
+past-requires c κs = search needs
 
 loop-less : tie.Need-loop-less Inv-loop μ-loop
 loop-less c = search needs
@@ -40,8 +43,9 @@ every-file-spec =
     Inv-loop
     μ-loop
     loop-holds
+    part-requires
     one-file-requires
-    further-requires
+    past-requires
     loop-less
     loop-again
     same-length

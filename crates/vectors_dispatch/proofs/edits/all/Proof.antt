@@ -6,10 +6,10 @@ use Rattle.vectors_dispatch.proofs.edits.all.Statement.{statement}
 use Rattle.vectors_dispatch.proofs.edits.all.Tie as tie
 
 abbrev Inv-loop : tie.InvT-loop
-Inv-loop input now₀ now = Unit {0}
+Inv-loop line now₀ now = Unit {0}
 
 abbrev μ-loop : tie.MeasureT-loop
-μ-loop input now₀ now = length input - now .next
+μ-loop line now₀ now = length line - now .next
 
 loop-holds : tie.Need-loop-holds Inv-loop μ-loop
 loop-holds c = search needs

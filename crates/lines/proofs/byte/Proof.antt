@@ -1,0 +1,17 @@
+-- `lines::byte` meets its contract: it reads the byte that is there, and 0 past the end. Assumes nothing.
+use borrow.Author.Needs.{needs}
+use Rattle.lines.proofs.Parts.{byte-past}
+use Rattle.lines.proofs.byte.Statement.{statement}
+use Rattle.lines.proofs.byte.Tie as tie
+
+shared-slice-read-result : tie.Need-shared-slice-read-result
+shared-slice-read-result c = search needs
+
+returns : tie.Need-returns
+returns c = search needs
+
+returns-2 : tie.Need-returns-2
+returns-2 c = search byte-past
+
+pub byte-spec : {M : Type 1} → statement M
+byte-spec = tie.close (tie.spec shared-slice-read-result returns returns-2)

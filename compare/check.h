@@ -1,0 +1,43 @@
+/* Each call made twice on the same input, once in the proved library and once in the model, and the two held to each other: what is answered, and every byte of
+ * every slice afterwards, with some bytes before and after it. The first disagreement is printed with its input in hex and ends the program with status 1. */
+#ifndef COMPARE_CHECK_H
+#define COMPARE_CHECK_H
+
+#include <stddef.h>
+#include <stdint.h>
+
+/* The cases from here on count under this kind. */
+void check_kind(const char *kind);
+
+/* Counts a case that is no pair of calls. */
+void check_count(void);
+
+/* Prints the counts by kind and by call, and answers how many of the refusals 1 to 17 no call got. */
+int check_report(void);
+
+/* Prints what is not as it should be and ends the program with status 1. */
+void check_fail(const char *what);
+
+/* Ends the program in the same way unless the bytes are the ones expected. */
+void check_bytes(const char *what, const void *got, const void *expected, size_t size);
+
+/* Each answers what both calls answered. Where a pointer is not const, what both calls left there is copied back. Slices have at most 32,768 bytes. */
+struct pair {
+    uint8_t gives;
+    uint16_t giver_c, giver_t;
+    uint8_t wants;
+    uint16_t wanted_c, wanted_t;
+};
+
+uint64_t check_decide(struct pair pair, size_t out_len, size_t answer_len, uint32_t *answer);
+uint64_t check_read(const uint8_t *bytes, size_t len, uint32_t *plan, size_t plan_len);
+uint64_t check_name(const uint8_t *bytes, size_t len, size_t i, size_t answer_len);
+uint64_t check_fresh(const uint32_t *plan, size_t plan_len, uint64_t *state, size_t state_len);
+uint64_t check_step(const uint32_t *plan, size_t plan_len, uint64_t *state, size_t state_len, uint8_t supplied, uint64_t declines, uint8_t *grants,
+                    size_t grants_len);
+uint64_t check_run(const uint32_t *plan, size_t plan_len, uint64_t *state, size_t state_len, const uint8_t *supplies, size_t supplies_len,
+                   const uint64_t *declines, size_t declines_len, uint8_t *out, size_t out_len);
+/* The start of a slot, its minute and the slot of a time, each asked about the same number. */
+void check_times(uint32_t p, uint32_t q, uint64_t number, size_t answer_len);
+
+#endif

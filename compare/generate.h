@@ -1,0 +1,51 @@
+/* Inputs made by chance from a seed: numbers, plans that are sound, and damage. */
+#ifndef COMPARE_GENERATE_H
+#define COMPARE_GENERATE_H
+
+#include <stddef.h>
+#include <stdint.h>
+
+/* Starts the numbers anew: the same seed gives the same inputs. */
+void chance_seed(uint64_t seed);
+uint64_t chance_bits(void);
+/* Below the bound, which is at least 1. */
+uint64_t chance_below(uint64_t bound);
+/* True in so many of a hundred. */
+int chance(uint32_t percent);
+
+struct drafted_type {
+    uint16_t c, t;
+};
+
+struct drafted_node {
+    uint8_t kind, parent;
+    struct drafted_type wanted, served;
+    uint8_t name_length;
+    uint8_t name[32];
+};
+
+/* A plan before it is written as bytes or as numbers. */
+struct draft {
+    uint32_t p, q;
+    uint8_t supply_count;
+    struct drafted_type supplies[8];
+    uint8_t node_count;
+    struct drafted_node nodes[64];
+};
+
+/* A plan with at most so many nodes that breaks no rule. */
+void draft_sound(struct draft *draft, uint32_t most_nodes);
+
+/* One change in what the plan says. The result may still be sound. */
+void draft_damage(struct draft *draft);
+
+enum { MOST_BYTES = 4096 };
+
+/* The plan's bytes, of which there are at most 2,796, and its value. */
+size_t draft_bytes(const struct draft *draft, uint8_t *bytes);
+void draft_value(const struct draft *draft, uint32_t *numbers);
+
+/* One change in the bytes, by which they get at most 32 longer; answers their new number. */
+size_t damage_bytes(uint8_t *bytes, size_t len);
+
+#endif

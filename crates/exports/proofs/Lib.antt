@@ -1,0 +1,10 @@
+pub mod Stored
+pub mod Laid
+pub mod Fields
+pub mod Refusing
+pub mod Told
+pub mod Given
+pub mod Back
+pub mod Places
+pub mod Writes
+pub mod Kept

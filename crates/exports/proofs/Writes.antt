@@ -1,0 +1,132 @@
+-- A refusal writes nothing, but for zeros and answers of 255: what specs/Promises.antt says of each call. Assumes nothing.
+use Prim.Native.Nat.{ℕ}
+use mathlib.Core.Bool.{Bool, true, false, cond}
+use mathlib.Core.List.{List}
+use mathlib.Core.Path.{_≡_, refl, ap, _∙_}
+use lib.Dec.{leb, eqb}
+use lib.ListN.{length, replicate}
+use borrow.Author.Tests.{eq-eqb}
+use Rattle.ticks.specs.Times as times
+use Rattle.types.specs.Decision.{decided, writing, left}
+use Rattle.types.specs.Decision as pairs
+use Rattle.answers.specs.declared.Answer.{Answer}
+use Rattle.answers.specs.declared.Answer.the-variants.{Accepted, Refused}
+use Rattle.plans.specs.Plan.{zeroPlan}
+use Rattle.plans.specs.declared.Plan.{Plan}
+use Rattle.layout.specs.Layout.{kindByte, parentByte, lays}
+use Rattle.rules.specs.Check.{fits}
+use Rattle.reader.specs.Read.{readPlan}
+use Rattle.reader.proofs.Kept.{refused-gives-zeros}
+use Rattle.dispatch.specs.Run.{outcome, Course, roomBy, ran, roomAfter, grantsBy, stepped, started}
+use Rattle.dispatch.specs.Run as runs
+use Rattle.dispatch.specs.declared.State.{State}
+use Rattle.dispatch.specs.declared.Ran.{Ran}
+use Rattle.dispatch.specs.declared.Stepped.{Stepped}
+use Rattle.dispatch.specs.declared.Outcome.{Outcome}
+use Rattle.dispatch.specs.declared.Outcome.the-variants.{Done, Beyond, Unfit, Misfit}
+use Rattle.exports.specs.Layout.{typeNumbers, nodeNumbers, typePart, nodePart, planNumbers, planOfNumbers, stateNumbers, stateOfNumbers, isPlan}
+use Rattle.exports.specs.Exports as exports
+use Rattle.exports.specs.Exports.{misfit, refusal, keeping, telling, deciding, decidingBy, kindOf, answerOf, reading, areFit, startedBy, steppedBy, ranBy, areWhole, freshening, stepping, running}
+use Rattle.exports.specs.Promises.{RefusedTime, RefusedPair, RefusedRun, RefusedStep, RefusedRead, RefusedFresh}
+
+-- slot times
+pub refused-time : RefusedTime
+unfolding telling
+refused-time s lent = go (eqb (length lent) 1) s
+  where
+    go : (b : Bool) (s : times.Said) → (cond b (exports.tellingBy s lent) (misfit, lent) .0 ≡ 0 → ⊥) → cond b (exports.tellingBy s lent) (misfit, lent) .1 ≡ lent
+    go true (times.number v) h = absurd (h refl)
+    go true (times.refused r) h = refl
+    go false s h = refl
+
+-- pairs of types
+pub refused-pair : RefusedPair
+unfolding deciding left
+refused-pair gives giver wants wanted out lent =
+    go (eqb (length lent) 4) (leb gives 1) (leb wants 1) (decided (kindOf gives) giver (kindOf wants) wanted (length out))
+  where
+    go : (a b c : Bool) (d : pairs.Said) →
+        let by = decidingBy d lent in
+        let w : ℕ × List ℕ × List ℕ =
+        cond a (cond b (cond c (by .0, writing giver wanted out d, by .1) (refusal 5 1, out, lent)) (refusal 5 0, out, lent)) (misfit, out, lent) in
+        (w .0 ≡ 0 → ⊥) → (w .1 ≡ out) × (w .2 ≡ lent)
+    go true true true (pairs.holds m) h = absurd (h refl)
+    go true true true (pairs.short m) h = absurd (h refl)
+    go true true true (pairs.fails s o n) h = absurd (h refl)
+    go true true true (pairs.refused r p) h = (refl, refl)
+    go true true false d h = (refl, refl)
+    go true false c d h = (refl, refl)
+    go false b c d h = (refl, refl)
+
+-- runs
+pub refused-run : RefusedRun
+unfolding running ranBy exports.roomBy ran roomAfter
+refused-run plan state supplies declines out =
+    go (areWhole plan state) (areFit plan state) (outcome p s (length supplies) (length declines) (length out)) _ _ _
+  where
+    p : Plan
+    p = planOfNumbers plan
+
+    s : State
+    s = stateOfNumbers state
+
+    go : (a f : Bool) (o : Outcome) (after : State) (n : ℕ) (c : Course) →
+        let r : Ran = cond f (record { outcome = o; state = after }) exports.unfitRan in
+        let kept = keeping (runs.said (r .outcome)) (r .state) state in
+        let w : ℕ × List ℕ × List ℕ = cond a (kept .0, kept .1, cond f (roomBy o n c out) out) (misfit, state, out) in
+        (w .0 ≡ 0 → ⊥) → (w .1 ≡ state) × (w .2 ≡ out)
+    go true true Done after n c h = absurd (h refl)
+    go true true Beyond after n c h = (refl, refl)
+    go true true Unfit after n c h = (refl, refl)
+    go true true Misfit after n c h = (refl, refl)
+    go true false o after n c h = (refl, refl)
+    go false f o after n c h = (refl, refl)
+
+-- steps
+pub refused-step : RefusedStep
+unfolding stepping steppedBy stepped
+refused-step plan state supplied declines grants whole eight =
+    rw (whole, eq-eqb (length grants) 8 eight) (go (areFit plan state) (outcome p s 1 1 (p .cores)) _ _)
+  where
+    p : Plan
+    p = planOfNumbers plan
+
+    s : State
+    s = stateOfNumbers state
+
+    go : (f : Bool) (o : Outcome) (after : State) (given : List ℕ) →
+        let r : Stepped = cond f (record { outcome = o; state = after; grants = grantsBy o given }) exports.unfitStepped in
+        let kept = keeping (runs.said (r .outcome)) (r .state) state in
+        (kept .0 ≡ 0 → ⊥) → (kept .1 ≡ state) × (r .grants ≡ replicate 8 255)
+    go true Done after given h = absurd (h refl)
+    go true Beyond after given h = (refl, refl)
+    go true Unfit after given h = (refl, refl)
+    go true Misfit after given h = (refl, refl)
+    go false o after given h = (refl, refl)
+
+-- reads
+zeros : planNumbers zeroPlan ≡ replicate 404 0
+unfolding planNumbers zeroPlan lays typePart nodePart nodeNumbers typeNumbers kindByte parentByte
+zeros = refl
+
+-- a refused read gives zeros
+pub refused-read : RefusedRead
+unfolding reading answerOf
+refused-read bytes lent whole = rw (eq-eqb (length lent) 404 whole) (go (readPlan bytes .answer) refl)
+  where
+    go : (a : Answer) → readPlan bytes .answer ≡ a → (answerOf a ≡ 0 → ⊥) → planNumbers (readPlan bytes .plan) ≡ replicate 404 0
+    go Accepted e h = absurd (h refl)
+    go (Refused r k) e h = ap planNumbers (refused-gives-zeros bytes r k e) ∙ zeros
+
+-- fresh starts
+pub refused-fresh : RefusedFresh
+unfolding freshening startedBy started stateNumbers
+refused-fresh plan lent whole = rw whole (go (isPlan plan) (fits (planOfNumbers plan)) _)
+  where
+    go : (b f : Bool) (left : List ℕ) →
+        let r : Ran =
+        cond b (cond f (record { outcome = Done; state = record { clock = 0; left = left } }) exports.unfitRan) exports.unfitRan in
+        (exports.outcomeOf (runs.said (r .outcome)) ≡ 0 → ⊥) → stateNumbers (r .state) ≡ replicate 65 0
+    go true true left h = absurd (h refl)
+    go true false left h = refl
+    go false f left h = refl

@@ -1,0 +1,22 @@
+-- What is promised of a listing. Why each holds is in proofs/. Assumes nothing.
+use Prim.Native.Nat.{ℕ, _≤_, _<_}
+use mathlib.Core.List.{List}
+use mathlib.Core.Path.{_≡_}
+use lib.ListN.{length}
+use Rattle.plans.specs.Sound.{Sound, Depth}
+use Rattle.plans.specs.declared.Plan.{Plan}
+use Rattle.layout.specs.Promises.{Bytes}
+use Rattle.listing.specs.Text.{depthOf, text, said}
+use Rattle.listing.specs.declared.Listed.{Listed}
+
+-- 3,708 bytes always suffice
+abbrev pub Suffices : Type 0
+Suffices = (s : List ℕ) → Bytes s → length (text s) ≤ 3708
+
+-- the depth that is printed is the node's depth
+abbrev pub DepthPrinted : Type 0
+DepthPrinted = (plan : Plan) → Sound plan → (i : ℕ) → i < plan .size → Depth plan i (depthOf plan i)
+
+-- two answers that say the same are the same
+abbrev pub OneListing : Type 0
+OneListing = (a b : Listed) → said a ≡ said b → a ≡ b

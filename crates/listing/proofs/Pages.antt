@@ -9,7 +9,7 @@ use native.Mathlib.Nat.{add-zero, add-suc, suc-add, add-assoc, le-refl, le-antis
 use native.Mathlib.Numerals.{add-one}
 use native.Mathlib.Omega.{arith}
 use Rattle.listing.specs.Page.{Put}
-use Rattle.listing.specs.Text.{joined}
+use Rattle.layout.specs.Layout.{lays}
 
 -- a list is stored as its front, and the rest behind it
 sets-append : (x y page : List ℕ) (at : ℕ) → sets page at (x ++ y) ≡ sets (sets page at x) (at + length x) y
@@ -72,43 +72,43 @@ pub room-last : (at : ℕ) (x y : List ℕ) (b : ℕ) → at + length (x ++ (y +
     {before page after : List ℕ} {next last : ℕ} → Put before at x next page → Put page next y last after → last + 1 ≤ 4096
 room-last at x y b h p q = room-byte q b [] (room-then p (y ++ (b ∷ [])) h)
 
--- a part of what is joined stands within the whole, behind the parts before it
-joined-within : (f : ℕ → List ℕ) (i n : ℕ) → i < n → length (joined f i) + length (f i) ≤ length (joined f n)
-unfolding joined
-joined-within f i zero l = absurd (omega arith)
-joined-within f i (suc n) l = go (eq-or-lt-of-le (omega arith)) (joined-within f i n)
+-- a part of what is laid stands within the whole, behind the parts before it
+lays-within : (f : ℕ → List ℕ) (i n : ℕ) → i < n → length (lays f i) + length (f i) ≤ length (lays f n)
+unfolding lays
+lays-within f i zero l = absurd (omega arith)
+lays-within f i (suc n) l = go (eq-or-lt-of-le (omega arith)) (lays-within f i n)
   where
-    go : (i ≡ n) ⊎ (i < n) → (i < n → length (joined f i) + length (f i) ≤ length (joined f n)) →
-        length (joined f i) + length (f i) ≤ length (joined f n ++ f n)
-    go (inl e) before = rw (e, length-append (joined f n) (f n)) (le-refl _)
-    go (inr m) before = omega (arith, before m, length-append (joined f n) (f n))
+    go : (i ≡ n) ⊎ (i < n) → (i < n → length (lays f i) + length (f i) ≤ length (lays f n)) →
+        length (lays f i) + length (f i) ≤ length (lays f n ++ f n)
+    go (inl e) before = rw (e, length-append (lays f n) (f n)) (le-refl _)
+    go (inr m) before = omega (arith, before m, length-append (lays f n) (f n))
 
--- what is joined is told by its parts
-pub joined-ext : (f g : ℕ → List ℕ) (n : ℕ) → ((i : ℕ) → i < n → f i ≡ g i) → joined f n ≡ joined g n
-unfolding joined
-joined-ext f g zero h = refl
-joined-ext f g (suc n) h = rw (joined-ext f g n (λ i l. h i (omega arith)), h n (omega arith))
+-- what is laid is told by its parts
+pub lays-ext : (f g : ℕ → List ℕ) (n : ℕ) → ((i : ℕ) → i < n → f i ≡ g i) → lays f n ≡ lays g n
+unfolding lays
+lays-ext f g zero h = refl
+lays-ext f g (suc n) h = rw (lays-ext f g n (λ i l. h i (omega arith)), h n (omega arith))
 
--- The loop that puts f 0, .., f (n − 1), whose invariant is (i ≤ n) × Put before at (joined f i) next page.
+-- The loop that puts f 0, .., f (n − 1), whose invariant is (i ≤ n) × Put before at (lays f i) next page.
 module _ (f : ℕ → List ℕ) (before : List ℕ) (at : ℕ) where
   -- before the first
-  pub joined-none : Put before at (joined f 0) at before
-  unfolding joined
-  joined-none = put-none before at
+  pub lays-none : Put before at (lays f 0) at before
+  unfolding lays
+  lays-none = put-none before at
 
-  module _ (i : ℕ) {page : List ℕ} {next : ℕ} (so : Put before at (joined f i) next page) where
+  module _ (i : ℕ) {page : List ℕ} {next : ℕ} (so : Put before at (lays f i) next page) where
     -- there is room for the next
-    pub joined-room : (n : ℕ) → i < n → at + length (joined f n) ≤ 4096 → (x : List ℕ) → x ≡ f i → next + length x ≤ 4096
-    joined-room n l h x e = omega (arith, so .place, joined-within f i n l, ap length e)
+    pub lays-room : (n : ℕ) → i < n → at + length (lays f n) ≤ 4096 → (x : List ℕ) → x ≡ f i → next + length x ≤ 4096
+    lays-room n l h x e = omega (arith, so .place, lays-within f i n l, ap length e)
 
     -- one more
-    pub joined-more : {after : List ℕ} {end : ℕ} (x : List ℕ) → Put page next x end after → x ≡ f i → Put before at (joined f (i + 1)) end after
-    unfolding joined
-    joined-more x p e = rw (add-one i) (put-then so (rw e at p))
+    pub lays-more : {after : List ℕ} {end : ℕ} (x : List ℕ) → Put page next x end after → x ≡ f i → Put before at (lays f (i + 1)) end after
+    unfolding lays
+    lays-more x p e = rw (add-one i) (put-then so (rw e at p))
 
     -- past the last
-    pub joined-done : (n : ℕ) → i ≤ n → n ≤ i → Put before at (joined f n) next page
-    joined-done n l h = rw (← le-antisymm l h) so
+    pub lays-done : (n : ℕ) → i ≤ n → n ≤ i → Put before at (lays f n) next page
+    lays-done n l h = rw (← le-antisymm l h) so
 
 -- The loop that puts a word byte by byte, whose invariant is (i ≤ n) × (page ≡ sets before at (take i word)).
 module _ (before : List ℕ) (at : ℕ) (word page : List ℕ) (i : ℕ) (e : page ≡ sets before at (take i word)) where

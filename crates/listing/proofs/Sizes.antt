@@ -30,7 +30,8 @@ use Rattle.dispatch.specs.declared.Choice.{Choice}
 use Rattle.dispatch.specs.declared.Choice.the-variants.{Nobody, Child}
 use Rattle.dispatch.specs.declared.Served.{Served}
 use Rattle.listing.proofs.SlotLines.{begins-most}
-use Rattle.listing.specs.Text.{digits, decimal, joined, above, depthTo, depthOf, leastOf, nodeLine}
+use Rattle.layout.specs.Layout.{lays}
+use Rattle.listing.specs.Text.{digits, decimal, above, depthTo, depthOf, leastOf, nodeLine}
 use Rattle.listing.specs.Text.{answers, answerText, answerPart, slotLine, acceptedText, refusedText}
 
 -- a number below 10 ^ (d + 1) has at most d + 1 digits
@@ -173,12 +174,12 @@ answers-brief plan few k =
     let state = started plan .state in
     course-brief (viewOf plan) few (plan .cores) (state .clock) (replicate 8 255) (replicate 8 0) (state .left) 8 k
 
--- what is joined is no longer than its parts together may be
-joined-most : (f : ℕ → List ℕ) (most : ℕ → ℕ) (n : ℕ) → ((i : ℕ) → i < n → length (f i) ≤ most i) → length (joined f n) ≤ sumTo most n
-unfolding joined sumTo
-joined-most f most zero h = omega arith
-joined-most f most (suc n) h =
-    omega (arith, length-append (joined f n) (f n), joined-most f most n (λ i l. h i (omega arith)), h n (omega arith))
+-- what is laid is no longer than its parts together may be
+lays-most : (f : ℕ → List ℕ) (most : ℕ → ℕ) (n : ℕ) → ((i : ℕ) → i < n → length (f i) ≤ most i) → length (lays f n) ≤ sumTo most n
+unfolding lays sumTo
+lays-most f most zero h = omega arith
+lays-most f most (suc n) h =
+    omega (arith, length-append (lays f n) (f n), lays-most f most n (λ i l. h i (omega arith)), h n (omega arith))
 
 sum-more : (f : ℕ → ℕ) (n more : ℕ) → sumTo f n ≤ sumTo f (n + more)
 unfolding sumTo
@@ -218,7 +219,7 @@ module _ (s : List ℕ) (plan : Plan) (kept : Sound plan) (named : (i : ℕ) →
       let number = decimal-few 0 n (omega arith) in
       let start = decimal-few 6 (begins (plan .tick) n) (omega (arith, begins-most (plan .tick) n (kept .tick) l)) in
       let few : sumTo (λ i. 3) (plan .cores) ≤ 24 = sum-up (λ i. 3) (plan .cores) 8 (kept .eight-cores) in
-      let parts = joined-most (answerPart (answers plan) (plan .cores) n) (λ i. 3) (plan .cores) (part-most n) in
+      let parts = lays-most (answerPart (answers plan) (plan .cores) n) (λ i. 3) (plan .cores) (part-most n) in
       simp length-append (omega arith)
 
   -- the text of an accepted plan
@@ -226,9 +227,9 @@ module _ (s : List ℕ) (plan : Plan) (kept : Sound plan) (named : (i : ℕ) →
   unfolding acceptedText sumTo nodeMost decimal digits
   accepted-most =
       let size = decimal-few 1 (plan .size) (omega (arith, kept .sixty-four-nodes)) in
-      let nodes = joined-most (nodeLine s plan) nodeMost (plan .size) node-most in
+      let nodes = lays-most (nodeLine s plan) nodeMost (plan .size) node-most in
       let most : sumTo nodeMost (plan .size) ≤ 3382 = sum-up nodeMost (plan .size) 64 (kept .sixty-four-nodes) in
-      let slots : length (joined (slotLine plan (answers plan)) 8) ≤ 312 = joined-most (slotLine plan (answers plan)) (λ n. 39) 8 slot-most in
+      let slots : length (lays (slotLine plan (answers plan)) 8) ≤ 312 = lays-most (slotLine plan (answers plan)) (λ n. 39) 8 slot-most in
       simp length-append (omega arith)
 
 -- the text of a refused one

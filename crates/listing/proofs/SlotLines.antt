@@ -27,9 +27,10 @@ use Rattle.dispatch.specs.Run.{freshLeft, started, within, ready, outcome, cour
 use Rattle.dispatch.specs.declared.Outcome.the-variants.{Done}
 use Rattle.dispatch.specs.declared.State.{State}
 use Rattle.dispatch.specs.declared.Ran.{Ran}
-use Rattle.listing.proofs.Pages.{put-then, joined-ext, room-first, room-then, room-byte}
+use Rattle.listing.proofs.Pages.{put-then, lays-ext, room-first, room-then, room-byte}
 use Rattle.listing.specs.Page.{Put}
-use Rattle.listing.specs.Text.{decimal, space, newline, joined, answers, answerText, answerPart, slotWord, slotLine}
+use Rattle.layout.specs.Layout.{lays}
+use Rattle.listing.specs.Text.{decimal, space, newline, answers, answerText, answerPart, slotWord, slotLine}
 
 -- The start of one of the first eight slots, where a is what was answered.
 module _ (tick : Tick) (n : ℕ) (good : isFit tick ≡ true) (few : n < 8) where
@@ -117,18 +118,18 @@ module _ (plan : Plan) (fitting : fits plan ≡ true) where
     line-alike : (n : ℕ) → n < 8 → slotLine plan grants n ≡ slotLine plan (answers plan) n
     unfolding slotLine
     line-alike n l =
-        rw (joined-ext (answerPart grants (plan .cores) n) (answerPart (answers plan) (plan .cores) n) (plan .cores) (λ s m. part-alike n s l m))
+        rw (lays-ext (answerPart grants (plan .cores) n) (answerPart (answers plan) (plan .cores) n) (plan .cores) (λ s m. part-alike n s l m))
 
-    lines-alike : joined (slotLine plan grants) 8 ≡ joined (slotLine plan (answers plan)) 8
-    lines-alike = joined-ext (slotLine plan grants) (slotLine plan (answers plan)) 8 line-alike
+    lines-alike : lays (slotLine plan grants) 8 ≡ lays (slotLine plan (answers plan)) 8
+    lines-alike = lays-ext (slotLine plan grants) (slotLine plan (answers plan)) 8 line-alike
 
     -- so there is room for the lines
-    pub lines-room : (at : ℕ) → at + length (joined (slotLine plan (answers plan)) 8) ≤ 4096 → at + length (joined (slotLine plan grants) 8) ≤ 4096
+    pub lines-room : (at : ℕ) → at + length (lays (slotLine plan (answers plan)) 8) ≤ 4096 → at + length (lays (slotLine plan grants) 8) ≤ 4096
     lines-room at h = rw lines-alike h
 
     -- and they are put
-    pub lines-put : {before after : List ℕ} {at next : ℕ} → Put before at (joined (slotLine plan grants) 8) next after →
-        Put before at (joined (slotLine plan (answers plan)) 8) next after
+    pub lines-put : {before after : List ℕ} {at next : ℕ} → Put before at (lays (slotLine plan grants) 8) next after →
+        Put before at (lays (slotLine plan (answers plan)) 8) next after
     lines-put p = rw lines-alike at p
 
 -- How an answer is printed.
@@ -186,7 +187,7 @@ module _ (grants : List ℕ) (cores n s : ℕ) (few : cores ≤ 8) (l : n < 8) (
 module _ (plan : Plan) (all : List ℕ) (n v : ℕ) (start : v ≡ begins (plan .tick) n) where
   -- what stands from each piece on
   abbrev parts : List ℕ
-  parts = joined (answerPart all (plan .cores) n) (plan .cores)
+  parts = lays (answerPart all (plan .cores) n) (plan .cores)
 
   abbrev fromParts : List ℕ
   fromParts = parts ++ newline
@@ -230,10 +231,10 @@ module _ (plan : Plan) (all : List ℕ) (n v : ℕ) (start : v ≡ begins (plan 
           after-start = room-then three fromParts after-number
 
           -- for the answers,
-          pub parts-room : a₃ + length (joined (answerPart all (plan .cores) n) (plan .cores)) ≤ 4096
+          pub parts-room : a₃ + length (lays (answerPart all (plan .cores) n) (plan .cores)) ≤ 4096
           parts-room = room-first a₃ parts newline after-start
 
-          module _ {p₄ : List ℕ} {a₄ : ℕ} (four : Put p₃ a₃ (joined (answerPart all (plan .cores) n) (plan .cores)) a₄ p₄) where
+          module _ {p₄ : List ℕ} {a₄ : ℕ} (four : Put p₃ a₃ (lays (answerPart all (plan .cores) n) (plan .cores)) a₄ p₄) where
             -- and for the newline
             pub newline-room : a₄ + 1 ≤ 4096
             newline-room = room-byte four 10 [] after-start

@@ -24,7 +24,8 @@ use Rattle.layout.specs.Promises.{Bytes}
 use Rattle.listing.proofs.Pages.{put-then, room-first, room-then}
 use Rattle.listing.proofs.Sizes.{accepted-most, refused-most}
 use Rattle.listing.specs.Page.{Put}
-use Rattle.listing.specs.Text.{decimal, space, newline, joined, nodeLine, answers, slotLine, acceptedWord, refusedWord}
+use Rattle.layout.specs.Layout.{lays}
+use Rattle.listing.specs.Text.{decimal, space, newline, nodeLine, answers, slotLine, acceptedWord, refusedWord}
 use Rattle.listing.specs.Text.{acceptedText, refusedText, textBy, text, written, refused, said, listed, left}
 use Rattle.listing.specs.declared.Listed.{Listed}
 use Rattle.listing.specs.declared.Listed.the-variants.{Written}
@@ -58,10 +59,10 @@ module _ (r k : ℕ) where
 -- The lines of an accepted plan in the pieces that are put.
 module _ (s : List ℕ) (plan : Plan) where
   abbrev nodes : List ℕ
-  nodes = joined (nodeLine s plan) (plan .size)
+  nodes = lays (nodeLine s plan) (plan .size)
 
   abbrev slots : List ℕ
-  slots = joined (slotLine plan (answers plan)) 8
+  slots = lays (slotLine plan (answers plan)) 8
 
   lines : acceptedText s plan ≡ acceptedWord ++ ((decimal (plan .size) ++ newline) ++ (nodes ++ slots))
   unfolding acceptedText
@@ -84,16 +85,16 @@ module _ (s : List ℕ) (plan : Plan) where
         after-size = room-then two (nodes ++ slots) after-accepted
 
         -- for the node lines,
-        pub nodes-room : a₂ + length (joined (nodeLine s plan) (plan .size)) ≤ 4096
+        pub nodes-room : a₂ + length (lays (nodeLine s plan) (plan .size)) ≤ 4096
         nodes-room = room-first a₂ nodes slots after-size
 
-        module _ {p₃ : List ℕ} {a₃ : ℕ} (three : Put p₂ a₂ (joined (nodeLine s plan) (plan .size)) a₃ p₃) where
+        module _ {p₃ : List ℕ} {a₃ : ℕ} (three : Put p₂ a₂ (lays (nodeLine s plan) (plan .size)) a₃ p₃) where
           -- and for the slot lines
-          pub slots-room : a₃ + length (joined (slotLine plan (answers plan)) 8) ≤ 4096
+          pub slots-room : a₃ + length (lays (slotLine plan (answers plan)) 8) ≤ 4096
           slots-room = room-then three slots after-size
 
           -- the pieces make up the lines
-          pub accepted-put : {after : List ℕ} {end : ℕ} → Put p₃ a₃ (joined (slotLine plan (answers plan)) 8) end after →
+          pub accepted-put : {after : List ℕ} {end : ℕ} → Put p₃ a₃ (lays (slotLine plan (answers plan)) 8) end after →
               Put before 0 (acceptedText s plan) end after
           accepted-put four = rw lines (put-then one (put-then two (put-then three four)))
 

@@ -15,6 +15,7 @@ use Rattle.plans.specs.declared.Parent.{Parent}
 use Rattle.plans.specs.declared.Parent.the-variants.{Supply, Node as Under}
 use Rattle.plans.specs.declared.Plan.{Plan}
 use Rattle.reader.specs.Read.{readPlan, nameOf}
+use Rattle.layout.specs.Layout.{lays}
 use Rattle.dispatch.specs.Run.{started, course}
 use Rattle.dispatch.specs.Slot.{idle, unsupplied}
 use Rattle.listing.specs.declared.Listed.{Listed}
@@ -36,11 +37,6 @@ newline = 10 ∷ []
 
 abbrev pub slash : List ℕ
 slash = 47 ∷ []
-
--- f 0, .., f (n − 1), one after the other
-unfoldable pub joined : (ℕ → List ℕ) → ℕ → List ℕ
-joined f zero = []
-joined f (suc n) = joined f n ++ f n
 
 -- 01: "A node under a supply has depth 1": how many steps up, of at most so many, lead to a supply
 unfoldable pub above : (ℕ → ℕ) → Parent → ℕ
@@ -82,7 +78,7 @@ slotWord = 115 ∷ 108 ∷ 111 ∷ 116 ∷ 32 ∷ []
 -- 01: "eight slot lines: number, start, and per supply the leaf"
 unfoldable pub slotLine : Plan → List ℕ → ℕ → List ℕ
 slotLine plan all n =
-    slotWord ++ (decimal n ++ (space ++ (decimal (begins (plan .tick) n) ++ (joined (answerPart all (plan .cores) n) (plan .cores) ++ newline))))
+    slotWord ++ (decimal n ++ (space ++ (decimal (begins (plan .tick) n) ++ (lays (answerPart all (plan .cores) n) (plan .cores) ++ newline))))
 
 -- "accepted " and "refused "
 abbrev pub acceptedWord : List ℕ
@@ -95,7 +91,7 @@ refusedWord = 114 ∷ 101 ∷ 102 ∷ 117 ∷ 115 ∷ 101 ∷ 100 ∷ 32 ∷ []
 unfoldable pub acceptedText : List ℕ → Plan → List ℕ
 acceptedText s plan =
     acceptedWord ++ (decimal (plan .size) ++ (newline ++
-    (joined (nodeLine s plan) (plan .size) ++ joined (slotLine plan (answers plan)) 8)))
+    (lays (nodeLine s plan) (plan .size) ++ lays (slotLine plan (answers plan)) 8)))
 
 -- 01: "A refused plan prints only `refused`, number and place, with spaces between"
 unfoldable pub refusedText : ℕ → ℕ → List ℕ

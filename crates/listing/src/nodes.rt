@@ -6,7 +6,8 @@ ghost use Prim.Native.Nat.{_+_, _<_, _≤_};
 ghost use lib.ListN.{length};
 ghost use Rattle.plans.specs.Plan.{servedOf};
 ghost use Rattle.plans.specs.Sound.{sound};
-ghost use Rattle.listing.specs.Text.{decimal, space, slash, joined, depthOf, leastOf, nodeLine};
+ghost use Rattle.layout.specs.Layout.{lays};
+ghost use Rattle.listing.specs.Text.{decimal, space, slash, depthOf, leastOf, nodeLine};
 ghost use Rattle.listing.specs.Page.{Put};
 use crate::pieces;
 use meaning::Kind;
@@ -17,8 +18,8 @@ use types::Verdict;
 
 // A line for each node.
 pub fn put_nodes(page: &mut [u8; 4096], at: usize, s: &[u8], plan: Plan) -> usize
-    requires { ⌜ (sound plan ≡ true) × (at + length (joined (nodeLine (now s) plan) (plan .size)) ≤ 4096) ⌝ }
-    ensures { λ r. ⌜ Put (now (page .entry)) at (joined (nodeLine (now (s .entry)) plan) (plan .size)) r (now (page .exit)) ⌝ }
+    requires { ⌜ (sound plan ≡ true) × (at + length (lays (nodeLine (now s) plan) (plan .size)) ≤ 4096) ⌝ }
+    ensures { λ r. ⌜ Put (now (page .entry)) at (lays (nodeLine (now (s .entry)) plan) (plan .size)) r (now (page .exit)) ⌝ }
 {
     let size = plan.size;
     let mut next = at;

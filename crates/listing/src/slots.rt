@@ -7,7 +7,8 @@ ghost use lib.ListN.{length, drop};
 ghost use Rattle.ticks.specs.Times.{isFit, begins};
 ghost use Rattle.plans.specs.Sound.{sound};
 ghost use Rattle.rules.specs.Check.{fits};
-ghost use Rattle.listing.specs.Text.{joined, answers, answerText, answerPart, slotLine};
+ghost use Rattle.layout.specs.Layout.{lays};
+ghost use Rattle.listing.specs.Text.{answers, answerText, answerPart, slotLine};
 ghost use Rattle.listing.specs.Page.{Put};
 use crate::pieces;
 use plans::Plan;
@@ -16,8 +17,8 @@ use ticks::Tick;
 
 // A line for each of the first eight slots.
 pub fn put_slots(page: &mut [u8; 4096], at: usize, plan: Plan) -> usize
-    requires { ⌜ (fits plan ≡ true) × (at + length (joined (slotLine plan (answers plan)) 8) ≤ 4096) ⌝ }
-    ensures { λ r. ⌜ Put (now (page .entry)) at (joined (slotLine plan (answers plan)) 8) r (now (page .exit)) ⌝ }
+    requires { ⌜ (fits plan ≡ true) × (at + length (lays (slotLine plan (answers plan)) 8) ≤ 4096) ⌝ }
+    ensures { λ r. ⌜ Put (now (page .entry)) at (lays (slotLine plan (answers plan)) 8) r (now (page .exit)) ⌝ }
 {
     let mut grants = [255u8; 64];
     give(plan, &mut grants);
@@ -34,8 +35,8 @@ fn give(plan: Plan, grants: &mut [u8; 64])
 }
 
 fn put_lines(page: &mut [u8; 4096], at: usize, plan: Plan, grants: [u8; 64]) -> usize
-    requires { ⌜ (sound plan ≡ true) × (at + length (joined (slotLine plan grants) 8) ≤ 4096) ⌝ }
-    ensures { λ r. ⌜ Put (now (page .entry)) at (joined (slotLine plan grants) 8) r (now (page .exit)) ⌝ }
+    requires { ⌜ (sound plan ≡ true) × (at + length (lays (slotLine plan grants) 8) ≤ 4096) ⌝ }
+    ensures { λ r. ⌜ Put (now (page .entry)) at (lays (slotLine plan grants) 8) r (now (page .exit)) ⌝ }
 {
     let mut next = at;
     let mut n: usize = 0;
@@ -72,8 +73,8 @@ fn start_of(tick: Tick, n: usize) -> u64
 
 // The answers of slot n, one for each core.
 fn put_parts(page: &mut [u8; 4096], at: usize, grants: [u8; 64], cores: usize, n: usize) -> usize
-    requires { ⌜ ((cores ≤ 8) × (n < 8)) × (at + length (joined (answerPart grants cores n) cores) ≤ 4096) ⌝ }
-    ensures { λ r. ⌜ Put (now (page .entry)) at (joined (answerPart grants cores n) cores) r (now (page .exit)) ⌝ }
+    requires { ⌜ ((cores ≤ 8) × (n < 8)) × (at + length (lays (answerPart grants cores n) cores) ≤ 4096) ⌝ }
+    ensures { λ r. ⌜ Put (now (page .entry)) at (lays (answerPart grants cores n) cores) r (now (page .exit)) ⌝ }
 {
     let mut next = at;
     let mut s: usize = 0;

@@ -13,7 +13,7 @@ use borrow.Author.Tests.{eqb-true}
 use denote.Enum.Declared.{tagOf}
 use types.Run.{OneOf}
 use Rattle.answers.proofs.Answer.{the-type}
-use Rattle.answers.specs.Answers.{none, at as place, nowhere, placed, said, accepts, first, test, each}
+use Rattle.answers.specs.Answers.{Place, none, at as place, nowhere, placed, said, accepts, first, test, each}
 use Rattle.answers.specs.declared.Answer.{Answer}
 use Rattle.answers.specs.declared.Answer.the-variants.{Accepted, Refused}
 
@@ -21,16 +21,18 @@ use Rattle.answers.specs.declared.Answer.the-variants.{Accepted, Refused
 abbrev pub Refusal : Answer → Type 0
 Refusal a = OneOf (1 ∷ []) (tagOf the-type a)
 
--- a place is told by its number
-pub placed-injective : (k k' : ℕ) → placed k ≡ placed k' → k ≡ k'
-unfolding placed
-placed-injective k k' e = go (eqb k nowhere) (eqb k' nowhere) (eqb-true k nowhere) (eqb-true k' nowhere) e
+-- the number that stands for a place
+pub unplaced : ℕ → Place → ℕ
+unplaced largest none = largest
+unplaced largest (place k) = k
+
+pub unplaced-placed : (largest k : ℕ) → unplaced largest (placed largest k) ≡ k
+unfolding placed unplaced
+unplaced-placed largest k = go (eqb k largest) refl
   where
-    go : (b b' : Bool) → (b ≡ true → k ≡ nowhere) → (b' ≡ true → k' ≡ nowhere) → cond b none (place k) ≡ cond b' none (place k') → k ≡ k'
-    go true true h h' l = h refl ∙ sym (h' refl)
-    go true false h h' l = cc
-    go false true h h' l = cc
-    go false false h h' l = cc
+    go : (b : Bool) → eqb k largest ≡ b → unplaced largest (cond b none (place k)) ≡ k
+    go true e = sym (eqb-true k largest e)
+    go false e = refl
 
 -- two answers that say the same are the same
 pub said-injective : (a b : Answer) → said a ≡ said b → a ≡ b
@@ -38,8 +40,8 @@ said-injective Accepted Accepted e = refl
 said-injective Accepted (Refused r k) e = cc
 said-injective (Refused r k) Accepted e = cc
 said-injective (Refused r k) (Refused r' k') e =
-    let alike : placed k ≡ placed k' = cc in
-    let same = placed-injective k k' alike in
+    let alike : placed nowhere k ≡ placed nowhere k' = cc in
+    let same = sym (unplaced-placed nowhere k) ∙ ap (unplaced nowhere) alike ∙ unplaced-placed nowhere k' in
     cc
 
 -- an accepted answer accepts

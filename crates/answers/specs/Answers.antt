@@ -10,12 +10,13 @@ pub data Place : Type 0 where
   none : Place
   at : ℕ → Place
 
--- the largest number of the place's machine type stands for no place
+-- A call gives a place as a number; the largest of the number's machine type stands for none.
+unfoldable pub placed : ℕ → ℕ → Place
+placed largest k = cond (eqb k largest) none (at k)
+
+-- the place of a plan's refusal that has none
 abbrev pub nowhere : ℕ
 nowhere = 0xffff_ffff_ffff_ffff
-
-unfoldable pub placed : ℕ → Place
-placed k = cond (eqb k nowhere) none (at k)
 
 -- What an answer says in document 01's own terms: nothing is refused, or the refusal of this number at this place.
 pub data Said : Type 0 where
@@ -24,7 +25,7 @@ pub data Said : Type 0 where
 
 abbrev pub said : Answer → Said
 said Accepted = accepted
-said (Refused r k) = refused r (placed k)
+said (Refused r k) = refused r (placed nowhere k)
 
 unfoldable pub accepts : Answer → Bool
 accepts Accepted = true

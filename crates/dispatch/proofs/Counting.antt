@@ -18,7 +18,7 @@ use Rattle.plans.specs.declared.Node.{Node}
 use Rattle.plans.specs.declared.Plan.{Plan}
 use Rattle.dispatch.specs.View.{View, servedC, servedT, viewOf}
 use Rattle.dispatch.specs.Slot.{refillOne, refillTo, refilled, charge}
-use Rattle.dispatch.specs.Run.{freshTo, freshLeft, within}
+use Rattle.dispatch.specs.Run.{freshTo, freshLeft, leftWithin}
 
 module _ (plan : Plan) (keeps : sound plan ≡ true) where
   -- a sound plan has 64 nodes at most
@@ -97,15 +97,15 @@ module _ (plan : Plan) where
 -- The loop that tests the counts, whose invariant is (i ≤ size) × (all (within plan left) i ≡ true). It stops at a node with more left than its
 -- served C:
 module _ (plan : Plan) (left : List ℕ) (i : ℕ) (m : Node) (e : m ≡ nodeAt plan i) where
-  pub over-stops : m .served .c < getD left i 0 → (k : ℕ) → i < k → false ≡ all (within plan left) k
-  unfolding within servedC
+  pub over-stops : m .served .c < getD left i 0 → (k : ℕ) → i < k → false ≡ all (leftWithin plan left) k
+  unfolding leftWithin servedC
   over-stops h k l =
-      all-stop (within plan left) k i false
+      all-stop (leftWithin plan left) k i false
       (sym (lt-leb (getD left i 0) (servedOf plan i .c) (omega (arith, ap (λ a. a .served .c) e)))) refl l
 
   -- and passes any other
-  pub within-more : getD left i 0 ≤ m .served .c → all (within plan left) i ≡ true → all (within plan left) (i + 1) ≡ true
-  unfolding within servedC
+  pub within-more : getD left i 0 ≤ m .served .c → all (leftWithin plan left) i ≡ true → all (leftWithin plan left) (i + 1) ≡ true
+  unfolding leftWithin servedC
   within-more h before =
-      all-more (within plan left) i before true
+      all-more (leftWithin plan left) i before true
       (sym (le-leb (getD left i 0) (servedOf plan i .c) (omega (arith, ap (λ a. a .served .c) e)))) refl

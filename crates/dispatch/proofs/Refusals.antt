@@ -22,7 +22,7 @@ use Rattle.plans.specs.declared.Plan.{Plan}
 use Rattle.rules.specs.Check.{rules, checked, fits}
 use Rattle.dispatch.proofs.Counting.{size-most}
 use Rattle.dispatch.specs.View.{viewOf}
-use Rattle.dispatch.specs.Run.{freshLeft, started, within, ready, outcome}
+use Rattle.dispatch.specs.Run.{freshLeft, started, leftWithin, ready, outcome}
 use Rattle.dispatch.specs.declared.Outcome.{Outcome}
 use Rattle.dispatch.specs.declared.Outcome.the-variants.{Done, Beyond, Unfit, Misfit}
 use Rattle.dispatch.specs.declared.State.{State}
@@ -66,7 +66,7 @@ module _ (plan : Plan) (b : Bool) (fit : b ≡ fits plan) where
       ready-late l = rw (sym fit ∙ h, lt-leb (state .clock) (2 ^ 40) l)
 
       -- otherwise the counts decide
-      pub ready-counts : state .clock ≤ 2 ^ 40 → (r : Bool) → r ≡ all (within plan (state .left)) (plan .size) → r ≡ ready plan state
+      pub ready-counts : state .clock ≤ 2 ^ 40 → (r : Bool) → r ≡ all (leftWithin plan (state .left)) (plan .size) → r ≡ ready plan state
       unfolding ready
       ready-counts l r e = rw (sym fit ∙ h, le-leb (state .clock) (2 ^ 40) l, e)
 

@@ -19,7 +19,7 @@ use Rattle.dispatch.proofs.Refusals.{Refusal}
 use Rattle.dispatch.proofs.Slots.{length-grants}
 use Rattle.dispatch.specs.View.{View, viewOf}
 use Rattle.dispatch.specs.Slot.{slot}
-use Rattle.dispatch.specs.Run.{outcome, Course, courseTo, course, stateBy, roomBy, ran, roomAfter, grantsBy, stepped}
+use Rattle.dispatch.specs.Run.{outcome, Course, courseTo, course, stateBy, outBy, ran, outAfter, grantsBy, stepped}
 use Rattle.dispatch.specs.declared.Outcome.{Outcome}
 use Rattle.dispatch.specs.declared.Outcome.the-variants.{Done, Beyond, Unfit, Misfit}
 use Rattle.dispatch.specs.declared.State.{State}
@@ -140,7 +140,7 @@ refused-state Unfit h state k c = refl
 refused-state Misfit h state k c = refl
 
 -- writes nowhere,
-refused-room : (o : Outcome) → Refusal o → (n : ℕ) (c : Course) (out : List ℕ) → roomBy o n c out ≡ out
+refused-room : (o : Outcome) → Refusal o → (n : ℕ) (c : Course) (out : List ℕ) → outBy o n c out ≡ out
 refused-room Done h n c out = absurd (refusal-not-done h)
 refused-room Beyond h n c out = refl
 refused-room Unfit h n c out = refl
@@ -168,15 +168,15 @@ module _ (plan : Plan) (state : State) (supplies declines : List ℕ) (o : Outco
 
   module _ (out : List ℕ) (e : o ≡ outcome plan state (length supplies) (length declines) (length out)) where
     -- a refused run writes nowhere
-    pub room-kept : Refusal o → out ≡ roomAfter plan state supplies declines out
-    unfolding roomAfter
+    pub room-kept : Refusal o → out ≡ outAfter plan state supplies declines out
+    unfolding outAfter
     room-kept h = rw (← e, refused-room o h)
 
     -- and one that is done lays its answers down, and leaves the room beyond
     pub room-filled : o ≡ Done → (after : List ℕ) →
         after ≡ course plan state supplies declines .answers ++ drop (length supplies * plan .cores) out →
-        after ≡ roomAfter plan state supplies declines out
-    unfolding roomAfter
+        after ≡ outAfter plan state supplies declines out
+    unfolding outAfter
     room-filled h after l = rw (← e, h, l)
 
 module _ (plan : Plan) (state : State) (supplied declines : ℕ) (o : Outcome) (e : o ≡ outcome plan state 1 1 (plan .cores)) where

@@ -45,11 +45,11 @@ started plan =
     (record { outcome = Unfit; state = zeroState })
 
 -- 01: "16 (a left over the node's served C, a clock over 2^40, or a plan value that breaks any of 2 to 7 and 11 to 14)"
-unfoldable pub within : Plan → List ℕ → ℕ → Bool
-within plan left i = leb (getD left i 0) (servedC plan i)
+unfoldable pub leftWithin : Plan → List ℕ → ℕ → Bool
+leftWithin plan left i = leb (getD left i 0) (servedC plan i)
 
 unfoldable pub ready : Plan → State → Bool
-ready plan state = fits plan && (leb (state .clock) (2 ^ 40) && all (within plan (state .left)) (plan .size))
+ready plan state = fits plan && (leb (state .clock) (2 ^ 40) && all (leftWithin plan (state .left)) (plan .size))
 
 -- 01: "Refusals in order: 16 .., 17 (unequal inputs or too little room), 15 (n + k over 2^40)"
 unfoldable pub outcome : Plan → State → ℕ → ℕ → ℕ → Outcome
@@ -83,11 +83,11 @@ stateBy Unfit state k c = state
 stateBy Misfit state k c = state
 
 -- 01: "room beyond stays", and a refusal "writes nowhere"
-abbrev pub roomBy : Outcome → ℕ → Course → List ℕ → List ℕ
-roomBy Done n c out = c .answers ++ drop n out
-roomBy Beyond n c out = out
-roomBy Unfit n c out = out
-roomBy Misfit n c out = out
+abbrev pub outBy : Outcome → ℕ → Course → List ℕ → List ℕ
+outBy Done n c out = c .answers ++ drop n out
+outBy Beyond n c out = out
+outBy Unfit n c out = out
+outBy Misfit n c out = out
 
 -- a run: its outcome, the state that it hands back, and the buffer afterwards
 unfoldable pub ran : Plan → State → List ℕ → List ℕ → ℕ → Ran
@@ -95,9 +95,9 @@ ran plan state supplies declines room =
     let o = outcome plan state (length supplies) (length declines) room in
     record { outcome = o; state = stateBy o state (length supplies) (course plan state supplies declines) }
 
-unfoldable pub roomAfter : Plan → State → List ℕ → List ℕ → List ℕ → List ℕ
-roomAfter plan state supplies declines out =
-    roomBy (outcome plan state (length supplies) (length declines) (length out)) (length supplies * plan .cores)
+unfoldable pub outAfter : Plan → State → List ℕ → List ℕ → List ℕ → List ℕ
+outAfter plan state supplies declines out =
+    outBy (outcome plan state (length supplies) (length declines) (length out)) (length supplies * plan .cores)
     (course plan state supplies declines) out
 
 -- 01: "A step is a run of one with eight answers by value, 255 past the last supply and all 255 in a refusal"

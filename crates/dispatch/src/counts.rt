@@ -6,7 +6,7 @@ ghost use lib.ListN.{getD};
 ghost use Rattle.plans.specs.Sound.{all, sound};
 ghost use Rattle.dispatch.specs.View.{viewOf};
 ghost use Rattle.dispatch.specs.Slot.{refilled, refillOne, charge};
-ghost use Rattle.dispatch.specs.Run.{freshLeft, within};
+ghost use Rattle.dispatch.specs.Run.{freshLeft, leftWithin};
 use plans::Plan;
 
 // Each node's served C.
@@ -65,7 +65,7 @@ pub fn charge_one(left: [u16; 64], i: usize) -> [u16; 64]
 // Whether no node has more left than its served C.
 pub fn are_within(plan: Plan, left: [u16; 64]) -> bool
     requires { ⌜ plan .size ≤ 64 ⌝ }
-    ensures { λ r. ⌜ r ≡ all (within plan left) (plan .size) ⌝ }
+    ensures { λ r. ⌜ r ≡ all (leftWithin plan left) (plan .size) ⌝ }
 {
     let size = plan.size;
     let mut i: usize = 0;

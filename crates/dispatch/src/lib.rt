@@ -2,7 +2,7 @@
 // fit is refused by number, the state comes back as it was given, and nothing is written. The sentences are in specs/.
 ghost use mathlib.Core.Path.{_≡_};
 ghost use lib.ListN.{length};
-ghost use Rattle.dispatch.specs.Run.{started, ran, roomAfter, stepped};
+ghost use Rattle.dispatch.specs.Run.{started, ran, outAfter, stepped};
 
 mod counts;
 mod picks;
@@ -85,7 +85,7 @@ pub fn fresh(plan: Plan) -> Ran
 // A run of as many slots as there are supply bytes; each takes its decline word, and its answers go to `out`, slot by slot.
 pub fn run(plan: Plan, state: State, supplies: &[u8], declines: &[u64], out: &mut [u8]) -> Ran
     ensures result { λ r. ⌜ r ≡ ran plan state (now (supplies .entry)) (now (declines .entry)) (length (now (out .entry))) ⌝ }
-    ensures buffer { λ r. ⌜ now (out .exit) ≡ roomAfter plan state (now (supplies .entry)) (now (declines .entry)) (now (out .entry)) ⌝ }
+    ensures buffer { λ r. ⌜ now (out .exit) ≡ outAfter plan state (now (supplies .entry)) (now (declines .entry)) (now (out .entry)) ⌝ }
 {
     let outcome = runs::outcome_of(plan, state, supplies.len(), declines.len(), out.len());
     let Outcome::Done = outcome else {

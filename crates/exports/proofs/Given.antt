@@ -9,7 +9,8 @@ use borrow.Author.Tests.{eq-eqb, ne-eqb, eqb-true}
 use types.Run.{miss}
 use Rattle.plans.specs.declared.Plan.{Plan}
 use Rattle.plans.proofs.All.{left-true, right-true}
-use Rattle.dispatch.specs.Run.{zeroState, started, ran, roomAfter, stepped, said}
+use Rattle.dispatch.specs.Run.{zeroState, started, ran, stepped, said}
+use Rattle.dispatch.specs.Run as runs
 use Rattle.dispatch.specs.declared.State.{State}
 use Rattle.dispatch.specs.declared.Outcome.{Outcome}
 use Rattle.dispatch.specs.declared.Outcome.the-variants.{Done, Beyond, Unfit, Misfit}
@@ -25,7 +26,7 @@ use Rattle.exports.specs.Exports.{
   startedBy,
   steppedBy,
   ranBy,
-  roomBy,
+  outBy,
   keeping,
   areWhole,
   freshening,
@@ -72,8 +73,8 @@ module _ (plan state : List ℕ) (b : Bool) (e : b ≡ areFit plan state) where
     run-unfit supplies declines room = rw (sym e ∙ h, l)
 
   -- which leaves the room as it was
-  pub room-unfit : b ≡ false → (supplies declines out : List ℕ) → out ≡ roomBy plan state supplies declines out
-  unfolding roomBy
+  pub room-unfit : b ≡ false → (supplies declines out : List ℕ) → out ≡ outBy plan state supplies declines out
+  unfolding outBy
   room-unfit h supplies declines out = rw (sym e ∙ h)
 
   module _ (h : b ≡ true) (p : Plan) (is : p ≡ planOfNumbers plan) (s : State) (at : s ≡ stateOfNumbers state) where
@@ -88,8 +89,8 @@ module _ (plan state : List ℕ) (b : Bool) (e : b ≡ areFit plan state) where
     run-given supplies declines room r k = rw (sym e ∙ h, ← is, ← at) k
 
     -- and so is what it leaves in the room
-    pub room-given : (supplies declines out after : List ℕ) → after ≡ roomAfter p s supplies declines out → after ≡ roomBy plan state supplies declines out
-    unfolding roomBy
+    pub room-given : (supplies declines out after : List ℕ) → after ≡ runs.outAfter p s supplies declines out → after ≡ outBy plan state supplies declines out
+    unfolding outBy
     room-given supplies declines out after k = rw (sym e ∙ h, ← is, ← at) k
 
 -- the lengths of a plan and a state, as the test b finds them
@@ -144,7 +145,7 @@ module _ (plan state : List ℕ) (b : Bool) (e : b ≡ areWhole plan state) wher
 
     -- a run fills its room, and keeps its state
     pub run-told : (supplies declines out : List ℕ) (r : Ran) → r ≡ ranBy plan state supplies declines (length out) →
-        (told : List ℕ) → told ≡ roomBy plan state supplies declines out →
+        (told : List ℕ) → told ≡ outBy plan state supplies declines out →
         (x, after) ≡ keeping (said (r .outcome)) (r .state) state → (x, after, told) ≡ running plan state supplies declines out
     unfolding running
     run-told supplies declines out r is told l kept =

@@ -12,6 +12,7 @@ use Rattle.meaning.specs.declared.Kind.the-variants.{Aligned, Sliding}
 use Rattle.types.specs.Decision as pairs
 use Rattle.types.specs.declared.Decision.{Decision}
 use Rattle.types.specs.declared.Decision.the-variants as decision
+use Rattle.answers.specs.Answers.{placed}
 use Rattle.answers.specs.declared.Answer.{Answer}
 use Rattle.answers.specs.declared.Answer.the-variants.{Accepted, Refused}
 use Rattle.dispatch.specs.Run.{said}
@@ -70,13 +71,13 @@ unfolding kindOf
 kind-sliding b h = rw (ne-eqb b 0 h)
 
 -- a pair's refusal by place 255 has no place
-pub pair-nowhere : (number place x : ℕ) → place ≡ 255 → x ≡ refusal number nowhere → x ≡ refusal number (placeOf (pairs.placed place))
-unfolding pairs.placed
+pub pair-nowhere : (number place x : ℕ) → place ≡ 255 → x ≡ refusal number nowhere → x ≡ refusal number (placeOf (placed 255 place))
+unfolding placed
 pair-nowhere number place x h e = rw h e
 
 -- any other has that place
-pub pair-place : (number place x : ℕ) → (place ≡ 255 → ⊥) → x ≡ refusal number place → x ≡ refusal number (placeOf (pairs.placed place))
-unfolding pairs.placed
+pub pair-place : (number place x : ℕ) → (place ≡ 255 → ⊥) → x ≡ refusal number place → x ≡ refusal number (placeOf (placed 255 place))
+unfolding placed
 pair-place number place x h e = rw (ne-eqb place 255 h) e
 
 module _ (d : Decision) (lent : List ℕ) where
@@ -89,5 +90,5 @@ module _ (d : Decision) (lent : List ℕ) where
   told-fails s o n after e h = rw (e, h)
 
   -- and one that is refused
-  pub told-refusal : (r p x : ℕ) → d ≡ decision.Refused r p → x ≡ refusal r (placeOf (pairs.placed p)) → (x, lent) ≡ decidingBy (pairs.saidOf d) lent
+  pub told-refusal : (r p x : ℕ) → d ≡ decision.Refused r p → x ≡ refusal r (placeOf (placed 255 p)) → (x, lent) ≡ decidingBy (pairs.saidOf d) lent
   told-refusal r p x e h = rw (e, h)

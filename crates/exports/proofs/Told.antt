@@ -8,13 +8,13 @@ use lib.Dec.{ltb}
 use lib.ListN.{length, set, take, drop}
 use borrow.Author.Tests.{eq-eqb, ne-eqb, le-leb, lt-leb, ltb-true}
 use Rattle.ticks.specs.Times as times
-use Rattle.ticks.specs.Times.{begins, timed, perMinute, SlotSays}
+use Rattle.ticks.specs.Times.{begins, latest, timed, perMinute, SlotSays}
 use Rattle.ticks.specs.declared.Tick.{Tick}
 use Rattle.ticks.specs.declared.Answer.{Answer as Time}
 use Rattle.ticks.proofs.Kept.{closed-form}
 use Rattle.meaning.specs.declared.SlotType.{SlotType}
 use Rattle.meaning.specs.declared.Kind.{Kind}
-use Rattle.types.specs.Decision.{saidOf, decided, left}
+use Rattle.types.specs.Decision.{saidOf, decided, outAfter}
 use Rattle.types.specs.declared.Decision.{Decision}
 use Rattle.answers.specs.Answers.{accepts}
 use Rattle.answers.specs.declared.Answer.{Answer}
@@ -33,7 +33,6 @@ use Rattle.exports.specs.Exports.{
   telling,
   starting,
   minuting,
-  latest,
   slotting,
   decidingBy,
   kindOf,
@@ -59,7 +58,7 @@ module _ (tick : Tick) (a : Time) (lent after : List ℕ) (x : ℕ) (told : (x, 
 
   -- the slot of a time, by the closed form
   pub slot-told : (t : ℕ) → SlotSays tick t (times.said a) → (x, after) ≡ slotting tick t lent
-  unfolding slotting latest
+  unfolding slotting
   slot-told t says = told ∙ ap (λ s. telling s lent) (says (latest tick t) (closed-form tick t))
 
 -- a pair of types, with an answer of the wrong length, of an unknown kind, and of kinds 0 and 1
@@ -82,7 +81,7 @@ module _ (gives : ℕ) (giver : SlotType) (wants : ℕ) (wanted : SlotType) (out
 
   -- and kinds 0 and 1
   pub pair-told : length lent ≡ 4 → gives ≤ 1 → wants ≤ 1 → (k k' : Kind) → k ≡ kindOf gives → k' ≡ kindOf wants →
-      (d : Decision) → saidOf d ≡ decided k giver k' wanted (length out) → (room : List ℕ) → room ≡ left k giver k' wanted out →
+      (d : Decision) → saidOf d ≡ decided k giver k' wanted (length out) → (room : List ℕ) → room ≡ outAfter k giver k' wanted out →
       (x : ℕ) (after : List ℕ) → (x, after) ≡ decidingBy (saidOf d) lent → (x, room, after) ≡ deciding gives giver wants wanted out lent
   unfolding deciding
   pair-told four h l k k' at at' d e room filled x after told =

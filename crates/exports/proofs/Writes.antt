@@ -7,7 +7,7 @@ use lib.Dec.{leb, eqb}
 use lib.ListN.{length, replicate}
 use borrow.Author.Tests.{eq-eqb}
 use Rattle.ticks.specs.Times as times
-use Rattle.types.specs.Decision.{decided, writing, left}
+use Rattle.types.specs.Decision.{decided, writing}
 use Rattle.types.specs.Decision as pairs
 use Rattle.answers.specs.declared.Answer.{Answer}
 use Rattle.answers.specs.declared.Answer.the-variants.{Accepted, Refused}
@@ -17,7 +17,7 @@ use Rattle.layout.specs.Layout.{kindByte, parentByte, lays}
 use Rattle.rules.specs.Check.{fits}
 use Rattle.reader.specs.Read.{readPlan}
 use Rattle.reader.proofs.Kept.{refused-gives-zeros}
-use Rattle.dispatch.specs.Run.{outcome, Course, roomBy, ran, roomAfter, grantsBy, stepped, started}
+use Rattle.dispatch.specs.Run.{outcome, Course, outBy, ran, outAfter, grantsBy, stepped, started}
 use Rattle.dispatch.specs.Run as runs
 use Rattle.dispatch.specs.declared.State.{State}
 use Rattle.dispatch.specs.declared.Ran.{Ran}
@@ -41,7 +41,7 @@ refused-time s lent = go (eqb (length lent) 1) s
 
 -- pairs of types
 pub refused-pair : RefusedPair
-unfolding deciding left
+unfolding deciding pairs.outAfter
 refused-pair gives giver wants wanted out lent =
     go (eqb (length lent) 4) (leb gives 1) (leb wants 1) (decided (kindOf gives) giver (kindOf wants) wanted (length out))
   where
@@ -60,7 +60,7 @@ refused-pair gives giver wants wanted out lent =
 
 -- runs
 pub refused-run : RefusedRun
-unfolding running ranBy exports.roomBy ran roomAfter
+unfolding running ranBy exports.outBy ran outAfter
 refused-run plan state supplies declines out =
     go (areWhole plan state) (areFit plan state) (outcome p s (length supplies) (length declines) (length out)) _ _ _
   where
@@ -73,7 +73,7 @@ refused-run plan state supplies declines out =
     go : (a f : Bool) (o : Outcome) (after : State) (n : ℕ) (c : Course) →
         let r : Ran = cond f (record { outcome = o; state = after }) exports.unfitRan in
         let kept = keeping (runs.said (r .outcome)) (r .state) state in
-        let w : ℕ × List ℕ × List ℕ = cond a (kept .0, kept .1, cond f (roomBy o n c out) out) (misfit, state, out) in
+        let w : ℕ × List ℕ × List ℕ = cond a (kept .0, kept .1, cond f (outBy o n c out) out) (misfit, state, out) in
         (w .0 ≡ 0 → ⊥) → (w .1 ≡ state) × (w .2 ≡ out)
     go true true Done after n c h = absurd (h refl)
     go true true Beyond after n c h = (refl, refl)

@@ -1,23 +1,24 @@
 -- What each function of include/mettulos.h answers and what the slices that it is lent hold afterwards, as a pair or a triple in the order of its
 -- arguments. Built from what the crates below say of their calls. Assumes nothing.
-use Prim.Native.Nat.{ℕ, _+_, _-_, _*_, _/_, min}
+use Prim.Native.Nat.{ℕ, _+_, _*_, min}
 use mathlib.Core.Bool.{Bool, cond, _&&_}
 use mathlib.Core.List.{List, [], _∷_}
 use lib.Dec.{leb, eqb}
 use lib.ListN.{length, replicate}
-use Rattle.ticks.specs.Times.{begins, timed, perMinute}
+use Rattle.ticks.specs.Times.{begins, latest, timed, perMinute}
 use Rattle.ticks.specs.Times as times
 use Rattle.ticks.specs.declared.Tick.{Tick}
 use Rattle.meaning.specs.declared.SlotType.{SlotType}
 use Rattle.meaning.specs.declared.Kind.{Kind}
 use Rattle.meaning.specs.declared.Kind.the-variants.{Aligned, Sliding}
-use Rattle.types.specs.Decision.{decided, left}
+use Rattle.types.specs.Decision.{decided}
 use Rattle.types.specs.Decision as pairs
+use Rattle.answers.specs.Answers.{Place, none, at}
 use Rattle.answers.specs.declared.Answer.{Answer}
 use Rattle.answers.specs.declared.Answer.the-variants.{Accepted, Refused}
 use Rattle.decode.specs.Positions.{nameStart}
 use Rattle.reader.specs.Read.{readPlan, nameOf}
-use Rattle.dispatch.specs.Run.{zeroState, started, ran, roomAfter, stepped, said}
+use Rattle.dispatch.specs.Run.{zeroState, started, ran, stepped, said}
 use Rattle.dispatch.specs.Run as runs
 use Rattle.dispatch.specs.declared.State.{State}
 use Rattle.dispatch.specs.declared.Outcome.the-variants.{Unfit}
@@ -53,19 +54,15 @@ starting tick n = telling (timed tick n (begins tick n))
 unfoldable pub minuting : Tick → ℕ → List ℕ → ℕ × List ℕ
 minuting tick n = telling (perMinute (timed tick n (begins tick n)))
 
--- 01: "The slot of a time t is the greatest n that begins at or before t: floor(((t + 1)·Q − 1)/P)". That the second is the first is a promise of `ticks`.
-unfoldable pub latest : Tick → ℕ → ℕ
-latest tick t = ((t + 1) * tick .q - 1) / tick .p
-
 -- mettulos_slot
 unfoldable pub slotting : Tick → ℕ → List ℕ → ℕ × List ℕ
 slotting tick t = telling (timed tick t (latest tick t))
 
 -- Pairs of types. A pair that holds: 1, the least ones, 0, 0; one that fails: 0, the window's start, the ones there, the stretch's length. (A decision
 -- with an allocation never says just that a pair falls short.)
-abbrev pub placeOf : pairs.Place → ℕ
-placeOf pairs.none = nowhere
-placeOf (pairs.at k) = k
+abbrev pub placeOf : Place → ℕ
+placeOf none = nowhere
+placeOf (at k) = k
 
 abbrev pub decidingBy : pairs.Said → List ℕ → ℕ × List ℕ
 decidingBy (pairs.holds m) lent = (0, 1 ∷ m ∷ 0 ∷ 0 ∷ [])
@@ -83,7 +80,7 @@ deciding gives giver wants wanted out lent =
     let by = decidingBy (decided (kindOf gives) giver (kindOf wants) wanted (length out)) lent in
     cond (eqb (length lent) 4)
     (cond (leb gives 1)
-    (cond (leb wants 1) (by .0, left (kindOf gives) giver (kindOf wants) wanted out, by .1) (refusal 5 1, out, lent))
+    (cond (leb wants 1) (by .0, pairs.outAfter (kindOf gives) giver (kindOf wants) wanted out, by .1) (refusal 5 1, out, lent))
     (refusal 5 0, out, lent))
     (misfit, out, lent)
 
@@ -131,9 +128,9 @@ unfoldable pub ranBy : List ℕ → List ℕ → List ℕ → List ℕ → ℕ �
 ranBy plan state supplies declines room =
     cond (areFit plan state) (ran (planOfNumbers plan) (stateOfNumbers state) supplies declines room) unfitRan
 
-unfoldable pub roomBy : List ℕ → List ℕ → List ℕ → List ℕ → List ℕ → List ℕ
-roomBy plan state supplies declines out =
-    cond (areFit plan state) (roomAfter (planOfNumbers plan) (stateOfNumbers state) supplies declines out) out
+unfoldable pub outBy : List ℕ → List ℕ → List ℕ → List ℕ → List ℕ → List ℕ
+outBy plan state supplies declines out =
+    cond (areFit plan state) (runs.outAfter (planOfNumbers plan) (stateOfNumbers state) supplies declines out) out
 
 -- 01: a refusal "hands back the given state": it is written only where the call was done
 abbrev pub keeping : runs.Said → State → List ℕ → ℕ × List ℕ
@@ -161,4 +158,4 @@ unfoldable pub running : List ℕ → List ℕ → List ℕ → List ℕ → Lis
 running plan state supplies declines out =
     let s = ranBy plan state supplies declines (length out) in
     let kept = keeping (said (s .outcome)) (s .state) state in
-    cond (areWhole plan state) (kept .0, kept .1, roomBy plan state supplies declines out) (misfit, state, out)
+    cond (areWhole plan state) (kept .0, kept .1, outBy plan state supplies declines out) (misfit, state, out)

@@ -3,6 +3,7 @@ ghost use mathlib.Core.Path.{_≡_};
 ghost use Prim.Native.Nat.{_≤_};
 ghost use lib.ListN.{length};
 ghost use mathlib.Core.List.{[], _∷_};
+ghost use Rattle.answers.specs.Answers.{placed};
 ghost use Rattle.types.specs.Decision as pairs;
 ghost use Rattle.exports.specs.Exports.{kindOf, placeOf, refusal, decidingBy, deciding};
 use meaning::Kind;
@@ -68,7 +69,7 @@ fn put(a: u32, b: u32, c: u32, d: u32, answer: &mut [u32])
 
 // A refusal whose place is 255 where it has none.
 fn refused(number: u8, place: u8) -> u64
-    ensures { λ r. ⌜ r ≡ refusal number (placeOf (pairs.placed place)) ⌝ }
+    ensures { λ r. ⌜ r ≡ refusal number (placeOf (placed 255 place)) ⌝ }
 {
     if place == 255 {
         crate::refusals::refusal(number, crate::refusals::NOWHERE)

@@ -2,7 +2,7 @@
 ghost use mathlib.Core.Path.{_≡_};
 ghost use lib.ListN.{length};
 ghost use Rattle.dispatch.specs.Run.{zeroState};
-ghost use Rattle.exports.specs.Exports.{areFit, startedBy, steppedBy, ranBy, roomBy};
+ghost use Rattle.exports.specs.Exports.{areFit, startedBy, steppedBy, ranBy, outBy};
 use dispatch::Outcome;
 use dispatch::Ran;
 use dispatch::State;
@@ -44,7 +44,7 @@ pub fn run(plan: &[u32], state: &[u64], supplies: &[u8], declines: &[u64], out: 
     requires { ⌜ (length (now plan) ≡ 404) × (length (now state) ≡ 65) ⌝ }
     ensures result { λ r. ⌜ r ≡ ranBy (now (plan .entry)) (now (state .entry)) (now (supplies .entry)) (now (declines .entry)) (length (now (out .entry))) ⌝ }
     ensures buffer { λ r. ⌜ now (out .exit) ≡
-        roomBy (now (plan .entry)) (now (state .entry)) (now (supplies .entry)) (now (declines .entry)) (now (out .entry)) ⌝ }
+        outBy (now (plan .entry)) (now (state .entry)) (now (supplies .entry)) (now (declines .entry)) (now (out .entry)) ⌝ }
 {
     if !are_fit(plan, state) {
         return Ran {

@@ -174,7 +174,7 @@ unfolding
     read.checkEnd read.checkBytes read.readAnswer read.readPlan
     bitOf isLeaf servedC servedT eligible prefer consider chooseTo choose
     refillOne refillTo refilled charge follow walk granting serveCore serveTo slot
-    run.freshTo run.freshLeft run.started run.within run.ready run.outcome run.courseTo run.course run.ran run.roomAfter
+    run.freshTo run.freshLeft run.started run.leftWithin run.ready run.outcome run.courseTo run.course run.ran run.outAfter
     any core answered receives begins takes look
 computed = (
   (

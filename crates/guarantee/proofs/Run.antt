@@ -18,7 +18,7 @@ use Rattle.plans.proofs.All.{left-true}
 use Rattle.rules.specs.Check.{fits}
 use Rattle.dispatch.specs.View.{viewOf}
 use Rattle.dispatch.specs.Slot.{unsupplied}
-use Rattle.dispatch.specs.Run.{freshLeft, started, within, ready, outcome, course, ran, roomAfter}
+use Rattle.dispatch.specs.Run.{freshLeft, started, leftWithin, ready, outcome, course, ran, outAfter}
 use Rattle.dispatch.specs.declared.Outcome.the-variants.{Done, Beyond, Unfit, Misfit}
 use Rattle.dispatch.proofs.Slots.{length-grants}
 use Rattle.unending.specs.Unending.{any, leftAt, slotAt, answers, granted, answersTo}
@@ -103,7 +103,7 @@ module _ {bytes : List ℕ} {plan : Plan} {supplies declines out : List ℕ} (ru
   unfolding ready
   fresh =
       let state = started plan .state in
-      fit-fresh plan (left-true (fits plan) (leb (state .clock) (2 ^ 40) && all (within plan (state .left)) (plan .size)) (passed .0))
+      fit-fresh plan (left-true (fits plan) (leb (state .clock) (2 ^ 40) && all (leftWithin plan (state .left)) (plan .size)) (passed .0))
 
   -- it has as many decline words as supply bytes
   same-lengths : length supplies ≡ length declines
@@ -114,7 +114,7 @@ module _ {bytes : List ℕ} {plan : Plan} {supplies declines out : List ℕ} (ru
 
   -- and its buffer begins with the answers
   buffer : written plan supplies declines out ≡ course plan (started plan .state) supplies declines .answers ++ drop (length supplies * plan .cores) out
-  unfolding roomAfter ran
+  unfolding outAfter ran
   buffer = rw (run .done)
 
   module _ (supply decline : ℕ → ℕ) (cores : plan .cores ≤ 8) where

@@ -7,7 +7,7 @@ use mathlib.Core.Path.{_≡_}
 use lib.Dec.{eqb}
 use lib.ListN.{length, replicate}
 use Rattle.meaning.specs.Allocation.{ones}
-use Rattle.meaning.specs.Types.{Starts}
+use Rattle.meaning.specs.Types.{_of_, Starts}
 use Rattle.meaning.specs.declared.SlotType.{SlotType}
 use Rattle.plans.specs.Plan.{zeroType, zeroNode, kindOf, wantedOf, wantedAs}
 use Rattle.plans.specs.declared.Node.{Node}
@@ -81,11 +81,6 @@ abbrev pub Enough : Type 0
 Enough =
     (c : Case) (answers : List ℕ) (asks gets : ℕ) → Runs c answers asks gets →
     Supplied c → Starting c → Inside c → Accepting c → asks ≤ gets
-
-infix 60 _of_
--- C slots in T
-abbrev pub _of_ : ℕ → ℕ → SlotType
-C of T = record { c = C; t = T }
 
 -- every core is supplied in every slot
 abbrev pub always : ℕ → ℕ

@@ -17,7 +17,7 @@ use Rattle.reader.specs.Read.{readPlan}
 use Rattle.reader.specs.declared.Reading.{Reading}
 use Rattle.dispatch.specs.View.{bitOf}
 use Rattle.dispatch.specs.Slot.{unsupplied}
-use Rattle.dispatch.specs.Run.{started, ran, roomAfter}
+use Rattle.dispatch.specs.Run.{started, ran, outAfter}
 use Rattle.dispatch.specs.declared.Outcome.{Outcome}
 use Rattle.dispatch.specs.declared.Outcome.the-variants.{Done}
 use Rattle.unending.specs.Unending.{any}
@@ -41,7 +41,7 @@ pub record FreshRun (bytes : List ℕ) (plan : Plan) (supplies declines out : Li
 
 -- what the buffer holds after that run
 abbrev pub written : Plan → List ℕ → List ℕ → List ℕ → List ℕ
-written plan supplies declines out = roomAfter plan (started plan .state) supplies declines out
+written plan supplies declines out = outAfter plan (started plan .state) supplies declines out
 
 -- Whether slot n went to partition i, by the buffer: the answer of some core there is i.
 unfoldable pub answered : Plan → List ℕ → ℕ → ℕ → ℕ → Bool

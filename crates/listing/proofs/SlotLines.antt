@@ -23,7 +23,7 @@ use Rattle.dispatch.proofs.Refusals.{fits-sound}
 use Rattle.dispatch.proofs.Running.{length-answers}
 use Rattle.dispatch.proofs.SlotsFresh.{fresh-count}
 use Rattle.dispatch.specs.View.{viewOf, servedC}
-use Rattle.dispatch.specs.Run.{freshLeft, started, within, ready, outcome, course, roomAfter}
+use Rattle.dispatch.specs.Run.{freshLeft, started, leftWithin, ready, outcome, course, outAfter}
 use Rattle.dispatch.specs.declared.Outcome.the-variants.{Done}
 use Rattle.dispatch.specs.declared.State.{State}
 use Rattle.dispatch.specs.declared.Ran.{Ran}
@@ -82,11 +82,11 @@ module _ (plan : Plan) (fitting : fits plan ≡ true) where
 
   -- and its state is fit
   fresh-ready : ready plan opening ≡ true
-  unfolding ready within servedC opening
+  unfolding ready leftWithin servedC opening
   fresh-ready =
       rw (
         fitting,
-        all-true (within plan (freshLeft (viewOf plan))) (plan .size)
+        all-true (leftWithin plan (freshLeft (viewOf plan))) (plan .size)
             (λ i l. rw (fresh-count (viewOf plan) i (omega (arith, kept .sixty-four-nodes)) l) (le-leb (servedC plan i) (servedC plan i) (le-refl _))),
       )
 
@@ -97,8 +97,8 @@ module _ (plan : Plan) (fitting : fits plan ≡ true) where
 
   -- and the buffer has its answers in front
   pub slots-given : (f : Ran) → f ≡ started plan → (out after : List ℕ) → length out ≡ 64 →
-      after ≡ roomAfter plan (f .state) (replicate 8 255) (replicate 8 0) out → after ≡ answers plan ++ drop (8 * plan .cores) out
-  unfolding roomAfter answers
+      after ≡ outAfter plan (f .state) (replicate 8 255) (replicate 8 0) out → after ≡ answers plan ++ drop (8 * plan .cores) out
+  unfolding outAfter answers
   slots-given f e out after long h =
       (rw (e, fresh-given, long, run-done) at h)
       ∙ ap (λ r. course plan (r .state) (replicate 8 255) (replicate 8 0) .answers ++ drop (8 * plan .cores) out) (sym fresh-given)

@@ -26,7 +26,7 @@ use Rattle.listing.proofs.Sizes.{accepted-most, refused-most}
 use Rattle.listing.specs.Page.{Put}
 use Rattle.layout.specs.Layout.{lays}
 use Rattle.listing.specs.Text.{decimal, space, newline, nodeLine, answers, slotLine, acceptedWord, refusedWord}
-use Rattle.listing.specs.Text.{acceptedText, refusedText, textBy, text, written, refused, said, listed, left}
+use Rattle.listing.specs.Text.{acceptedText, refusedText, textBy, text, written, refused, said, listed, outAfter}
 use Rattle.listing.specs.declared.Listed.{Listed}
 use Rattle.listing.specs.declared.Listed.the-variants.{Written}
 
@@ -188,23 +188,23 @@ module _ (s blank page : List ℕ) (n : ℕ) (put : Put blank 0 (text s) n page)
 
     module _ (out : List ℕ) (fitting : b ≡ leb n (length out)) where
       -- where there is too little, the buffer is as it was,
-      pub list-kept : b ≡ false → out ≡ left s out
-      unfolding left
+      pub list-kept : b ≡ false → out ≡ outAfter s out
+      unfolding outAfter
       list-kept h = rw (← length-is, sym fitting ∙ h)
 
       -- and otherwise it has the text in front
-      pub list-left : b ≡ true → length blank ≡ 4096 → Bytes s → (after : List ℕ) → after ≡ take n page ++ drop n out → after ≡ left s out
-      unfolding left
+      pub list-left : b ≡ true → length blank ≡ 4096 → Bytes s → (after : List ℕ) → after ≡ take n page ++ drop n out → after ≡ outAfter s out
+      unfolding outAfter
       list-left h whole bytes after e =
           let front : page ≡ text s ++ drop (0 + length (text s)) blank =
           put .page ∙ sets-eq (text s) blank 0 (omega (arith, text-length bytes, length-is)) in
           rw (← length-is, sym fitting ∙ h) (e ∙ ap (λ x. x ++ drop n out) (ap (take n) front ∙ take-at (text s) _ n (sym length-is)))
 
 -- What a caller knows: a was answered for the plan bytes s, and `out` has become `after`.
-module _ (s out after : List ℕ) (a : Listed) (e : said a ≡ listed s (length out)) (n : ℕ) (h : a ≡ Written n) (changed : after ≡ left s out) where
+module _ (s out after : List ℕ) (a : Listed) (e : said a ≡ listed s (length out)) (n : ℕ) (h : a ≡ Written n) (changed : after ≡ outAfter s out) where
   -- the text fits into the room, and is in its front
   written-front : (n ≡ length (text s)) × (after ≡ text s ++ drop (length (text s)) out)
-  unfolding listed left
+  unfolding listed outAfter
   written-front = go (leb (length (text s)) (length out)) (rw h at e) changed
     where
       go : (b : Bool) → written n ≡ cond b (written (length (text s))) (refused 17) → after ≡ cond b (text s ++ drop (length (text s)) out) out →

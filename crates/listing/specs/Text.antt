@@ -118,5 +118,6 @@ said Short = refused 17
 unfoldable pub listed : List ℕ → ℕ → Said
 listed s room = cond (leb (length (text s)) room) (written (length (text s))) (refused 17)
 
-unfoldable pub left : List ℕ → List ℕ → List ℕ
-left s out = cond (leb (length (text s)) (length out)) (text s ++ drop (length (text s)) out) out
+-- the buffer after the listing
+unfoldable pub outAfter : List ℕ → List ℕ → List ℕ
+outAfter s out = cond (leb (length (text s)) (length out)) (text s ++ drop (length (text s)) out) out

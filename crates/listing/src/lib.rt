@@ -7,7 +7,7 @@ ghost use Prim.Native.Nat.{_≤_};
 ghost use lib.Dec.{leb};
 ghost use lib.ListN.{length, take, drop};
 ghost use Rattle.rules.specs.Check.{fits};
-ghost use Rattle.listing.specs.Text.{acceptedText, refusedText, text, said, listed, left};
+ghost use Rattle.listing.specs.Text.{acceptedText, refusedText, text, said, listed, outAfter};
 ghost use Rattle.listing.specs.Page.{Put};
 
 mod nodes;
@@ -26,7 +26,7 @@ pub enum Listed {
 // Writes the text of a plan to the front of `out`, where there is room for it.
 pub fn list(bytes: &[u8], out: &mut [u8]) -> Listed
     ensures answer { λ r. ⌜ said r ≡ listed (now (bytes .entry)) (length (now (out .entry))) ⌝ }
-    ensures buffer { λ r. ⌜ now (out .exit) ≡ left (now (bytes .entry)) (now (out .entry)) ⌝ }
+    ensures buffer { λ r. ⌜ now (out .exit) ≡ outAfter (now (bytes .entry)) (now (out .entry)) ⌝ }
 {
     let mut page = [0u8; 4096];
     let n = put_text(&mut page, bytes);

@@ -8,6 +8,11 @@ use Rattle.meaning.specs.declared.SlotType.{SlotType}
 use Rattle.meaning.specs.declared.Kind.{Kind}
 use Rattle.meaning.specs.declared.Kind.the-variants.{Aligned, Sliding}
 
+infix 60 _of_
+-- 01: "A type is (C, T): C slots in T"
+abbrev pub _of_ : ℕ → ℕ → SlotType
+C of T = record { c = C; t = T }
+
 -- 01: "1 ≤ T ≤ 4,096, 0 ≤ C ≤ T"
 unfoldable pub wellFormed : SlotType → Bool
 wellFormed a = leb 1 (a .t) && (leb (a .t) 4096 && leb (a .c) (a .t))

@@ -11,7 +11,7 @@ use Rattle.meaning.specs.Types.{wellFormed}
 use Rattle.meaning.specs.Written.{written, stretchFrom, stretchTo}
 use Rattle.ticks.specs.Times.{inRange, isFit, begins, Latest}
 use Rattle.ticks.proofs.Kept.{closed-form}
-use Rattle.types.specs.Decision.{Said, judged, stretch, failing, decided, bytes, left}
+use Rattle.types.specs.Decision.{Said, judged, stretch, failing, decided, bytes, outAfter}
 use Rattle.types.specs.Least.{step, turns, onesFrom, onesAt, leastOnes, firstBelow, firstShort}
 use Rattle.starred.specs.Table.{tick, Row, begins-at, lies-in, decides, rows, buffer, Right, EachRight, Starred}
 
@@ -26,7 +26,7 @@ abbrev found : Row → Outcome
 found (begins-at P Q n v) = start (begins (tick P Q) n)
 found (lies-in P Q t n) = slot (isFit (tick P Q)) (((t + 1) * Q - 1) / P)
 found (decides gives giver wants wanted said allocation) =
-    answer (decided gives giver wants wanted (length buffer)) (left gives giver wants wanted buffer)
+    answer (decided gives giver wants wanted (length buffer)) (outAfter gives giver wants wanted buffer)
 
 -- what the row lists
 abbrev listed : Row → Outcome
@@ -37,7 +37,7 @@ listed (decides gives giver wants wanted said allocation) = answer said (allocat
 -- the test of the whole table
 agree : map found rows ≡ map listed rows
 unfolding inRange isFit begins ones lowest wellFormed written stretchFrom stretchTo step turns onesFrom onesAt leastOnes firstBelow firstShort
-    judged stretch failing decided bytes left
+    judged stretch failing decided bytes outAfter
 agree = refl
 
 -- a row that passes the test is right

@@ -3,17 +3,13 @@ use Prim.Native.Nat.{ℕ}
 use mathlib.Core.List.{List, [], _∷_, _++_}
 use mathlib.Core.Path.{_≡_}
 use lib.ListN.{length, drop, replicate}
+use Rattle.meaning.specs.Types.{_of_}
 use Rattle.meaning.specs.declared.Kind.{Kind}
 use Rattle.meaning.specs.declared.Kind.the-variants.{Aligned, Sliding}
 use Rattle.meaning.specs.declared.SlotType.{SlotType}
 use Rattle.ticks.specs.Times.{begins, Latest}
 use Rattle.ticks.specs.declared.Tick.{Tick}
-use Rattle.types.specs.Decision.{Said, holds, fails, decided, left}
-
-infix 60 _of_
--- C slots in T
-abbrev pub _of_ : ℕ → ℕ → SlotType
-C of T = record { c = C; t = T }
+use Rattle.types.specs.Decision.{Said, holds, fails, decided, outAfter}
 
 -- a slot lasts P/Q microseconds
 abbrev pub tick : ℕ → ℕ → Tick
@@ -65,7 +61,7 @@ Right (begins-at P Q n v) = begins (tick P Q) n ≡ v
 Right (lies-in P Q t n) = Latest (tick P Q) t n
 Right (decides gives giver wants wanted said allocation) =
     (decided gives giver wants wanted (length buffer) ≡ said) ×
-    (left gives giver wants wanted buffer ≡ allocation ++ drop (length allocation) buffer)
+    (outAfter gives giver wants wanted buffer ≡ allocation ++ drop (length allocation) buffer)
 
 -- all that is listed is right
 abbrev pub EachRight : List Row → Type 0

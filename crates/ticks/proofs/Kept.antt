@@ -1,11 +1,11 @@
 -- Why the promises of specs/Promises.antt hold. Assumes nothing.
-use Prim.Native.Nat.{ℕ, _+_, _-_, _*_, _/_, _≤_, _<_}
+use Prim.Native.Nat.{ℕ, _+_, _*_, _≤_, _<_}
 use mathlib.Core.Bool.{true}
 use mathlib.Core.Path.{_≡_, refl, sym, ap, _∙_}
 use native.Mathlib.Nat.{le-antisymm, le-refl}
 use native.Mathlib.Decide.{decLt}
 use native.Mathlib.Omega.{arith}
-use Rattle.ticks.specs.Times.{isFit, begins, Latest, Said, said, limited, timed}
+use Rattle.ticks.specs.Times.{isFit, begins, Latest, latest, Said, said, limited, timed}
 use Rattle.ticks.specs.Promises.{ClosedForm, OneSlot, InItsSlot, ThereAndBack, NeverFalls, SaidOnce, OneAnswer}
 use Rattle.ticks.specs.declared.Tick.{Tick}
 use Rattle.ticks.specs.declared.Answer.{Answer}
@@ -58,12 +58,12 @@ said-once Unfit Unfit e = refl
 
 pub one-answer : OneAnswer
 one-answer tick t a b ha hb =
-    let n = ((t + 1) * tick .q - 1) / tick .p in
+    let n = latest tick t in
     said-once a b (ha n (closed-form tick t) ∙ sym (hb n (closed-form tick t)))
 
 -- the closed form, answered, is what the slot of a time may be said to be
 pub slot-found : (tick : Tick) (t : ℕ) (a : Answer) → said a ≡ timed tick t t → (m : ℕ) → a ≡ Number m → (s : Said) →
-    s ≡ limited (((t + 1) * tick .q - 1) / tick .p) → (n : ℕ) → (isFit tick ≡ true → Latest tick t n) → s ≡ timed tick t n
-slot-found tick t a e m h s k n latest =
+    s ≡ limited (latest tick t) → (n : ℕ) → (isFit tick ≡ true → Latest tick t n) → s ≡ timed tick t n
+slot-found tick t a e m h s k n found =
     let fits = number-fit tick t a e m h in
-    answered tick t a e m h s n (k ∙ ap limited (one-slot tick t _ n (closed-form tick t fits) (latest fits)))
+    answered tick t a e m h s n (k ∙ ap limited (one-slot tick t _ n (closed-form tick t fits) (found fits)))

@@ -1,14 +1,14 @@
 -- What document 01, "Slot times", promises of the definitions in Times. Why each holds is in proofs/Kept.antt. Assumes nothing.
-use Prim.Native.Nat.{ℕ, _+_, _-_, _*_, _/_, _≤_, _<_}
+use Prim.Native.Nat.{ℕ, _+_, _≤_, _<_}
 use mathlib.Core.Bool.{true}
 use mathlib.Core.Path.{_≡_}
-use Rattle.ticks.specs.Times.{isFit, begins, Latest, said, SlotSays}
+use Rattle.ticks.specs.Times.{isFit, begins, Latest, latest, said, SlotSays}
 use Rattle.ticks.specs.declared.Tick.{Tick}
 use Rattle.ticks.specs.declared.Answer.{Answer}
 
 -- 01: "the greatest n that begins at or before t: floor(((t + 1)·Q − 1)/P)"
 abbrev pub ClosedForm : Type 0
-ClosedForm = (tick : Tick) (t : ℕ) → isFit tick ≡ true → Latest tick t (((t + 1) * tick .q - 1) / tick .p)
+ClosedForm = (tick : Tick) (t : ℕ) → isFit tick ≡ true → Latest tick t (latest tick t)
 
 -- at most one number is the slot of a time
 abbrev pub OneSlot : Type 0

@@ -1,5 +1,5 @@
 -- Slot times: document 01, "Slot times", and refusals 15 and 16 of its table. Assumes nothing.
-use Prim.Native.Nat.{ℕ, _*_, _/_, _^_, _≤_}
+use Prim.Native.Nat.{ℕ, _+_, _-_, _*_, _/_, _^_, _≤_}
 use mathlib.Core.Bool.{Bool, true, cond, _&&_}
 use mathlib.Core.Path.{_≡_}
 use lib.Dec.{leb}
@@ -22,6 +22,10 @@ begins tick n = n * tick .p / tick .q
 pub record Latest (tick : Tick) (t n : ℕ) : Type 0 where
   pub before : begins tick n ≤ t
   pub greatest : (m : ℕ) → begins tick m ≤ t → m ≤ n
+
+-- 01: "floor(((t + 1)·Q − 1)/P)", which is promised to be that n
+abbrev pub latest : Tick → ℕ → ℕ
+latest tick t = ((t + 1) * tick .q - 1) / tick .p
 
 -- What an answer says in document 01's own terms: the number asked for, or the number of a refusal. No refusal here has a place.
 pub data Said : Type 0 where

@@ -10,15 +10,14 @@ use Rattle.meaning.specs.Types.{wellFormed}
 use Rattle.meaning.specs.Written.{written, stretchFrom, stretchTo}
 use Rattle.meaning.specs.declared.SlotType.{SlotType}
 use Rattle.meaning.specs.declared.Kind.{Kind}
+use Rattle.answers.specs.Answers.{at, placed}
 use Rattle.types.specs.Least.{onesFrom, leastOnes, firstShort}
 use Rattle.types.specs.Decision.{
-  at,
   Said,
   holds,
   short,
   fails,
   refused,
-  placed,
   said,
   judged,
   stretch,
@@ -26,7 +25,7 @@ use Rattle.types.specs.Decision.{
   decided,
   bytes,
   writing,
-  left,
+  outAfter,
 }
 use Rattle.types.specs.declared.Verdict.{Verdict}
 use Rattle.types.specs.declared.Verdict.the-variants as verdict
@@ -39,7 +38,7 @@ module _ (giver wanted : SlotType) (s from to : ℕ) (first : from ≡ stretchFr
     stretch-is = rw (first, last)
 
     -- where there is no room it is refused
-    pub no-room : (room : ℕ) → room < to - from → refused 17 (placed 255) ≡ failing giver wanted room s
+    pub no-room : (room : ℕ) → room < to - from → refused 17 (placed 255 255) ≡ failing giver wanted room s
     unfolding failing placed
     no-room room h = rw (← stretch-is, lt-leb (to - from) room h)
 
@@ -65,13 +64,13 @@ formed a r e h = sym e ∙ not-false r h
 -- a pair's verdict, where r and q tell whether the types are well formed and m is the least ones
 module _ (gives : Kind) (giver : SlotType) (wants : Kind) (wanted : SlotType) (r : Bool) (e : r ≡ wellFormed giver) where
   -- a malformed giver is refused at place 0
-  pub giver-unfit : r ≡ false → refused 4 (placed 0) ≡ judged gives giver wants wanted
+  pub giver-unfit : r ≡ false → refused 4 (placed 255 0) ≡ judged gives giver wants wanted
   unfolding judged placed
   giver-unfit h = rw (sym e ∙ h)
 
   module _ (h : r ≡ true) (q : Bool) (k : q ≡ wellFormed wanted) where
     -- then a malformed wanted type at place 1
-    pub wanted-unfit : q ≡ false → refused 4 (placed 1) ≡ judged gives giver wants wanted
+    pub wanted-unfit : q ≡ false → refused 4 (placed 255 1) ≡ judged gives giver wants wanted
     unfolding judged placed
     wanted-unfit l = rw (sym e ∙ h, sym k ∙ l)
 
@@ -104,20 +103,20 @@ module _ (gives : Kind) (giver : SlotType) (wants : Kind) (wanted : SlotType) (v
     holds-alike room = rw (← e, h)
 
     -- and nothing is written
-    pub holds-kept : (out : List ℕ) → out ≡ left gives giver wants wanted out
-    unfolding left
+    pub holds-kept : (out : List ℕ) → out ≡ outAfter gives giver wants wanted out
+    unfolding outAfter
     holds-kept out = rw (← (holds-alike (length out)))
 
   -- where it is refused
   module _ (r p : ℕ) (h : v ≡ verdict.Refused r p) where
     -- the decision is the same
-    pub refused-alike : (room : ℕ) → refused r (placed p) ≡ decided gives giver wants wanted room
+    pub refused-alike : (room : ℕ) → refused r (placed 255 p) ≡ decided gives giver wants wanted room
     unfolding decided
     refused-alike room = rw (← e, h)
 
     -- and nothing is written
-    pub refused-kept : (out : List ℕ) → out ≡ left gives giver wants wanted out
-    unfolding left
+    pub refused-kept : (out : List ℕ) → out ≡ outAfter gives giver wants wanted out
+    unfolding outAfter
     refused-kept out = rw (← (refused-alike (length out)))
 
   -- where it falls short
@@ -143,6 +142,6 @@ module _ (gives : Kind) (giver : SlotType) (wants : Kind) (wanted : SlotType) (v
 
       -- and so are the bytes
       pub short-written : (out now : List ℕ) → now ≡ writing giver wanted out (failing giver wanted (length out) s)
-          → now ≡ left gives giver wants wanted out
-      unfolding left
+          → now ≡ outAfter gives giver wants wanted out
+      unfolding outAfter
       short-written out now k = rw (← (short-fails (length out) _ refl)) k

@@ -11,8 +11,9 @@ use Rattle.meaning.specs.Types.{wellFormed, StandsIn}
 use Rattle.meaning.specs.declared.SlotType.{SlotType}
 use Rattle.meaning.specs.declared.Kind.{Kind}
 use Rattle.meaning.proofs.WellFormed.{bounds}
+use Rattle.answers.specs.Answers.{none, at}
 use Rattle.types.specs.Least.{onesFrom, leastOnes, firstShort}
-use Rattle.types.specs.Decision.{none, at, Said, holds, short, fails, refused, stretch, judged, failing, showing, decided}
+use Rattle.types.specs.Decision.{Said, holds, short, fails, refused, stretch, judged, failing, showing, decided}
 use Rattle.types.specs.Promises.{LeastOf, FirstFailing, Holding, FallingShort, Exact, Failing, HoldingAlike}
 use Rattle.types.proofs.KeptLeast.{least-of, first-failing}
 

@@ -1,41 +1,25 @@
 -- An answer is read back from what it says, so that two answers which say the same are the same. Assumes nothing.
-use Prim.Native.Nat.{ℕ}
-use mathlib.Core.Bool.{Bool, true, false, cond}
 use mathlib.Core.Path.{_≡_, refl, ap, sym, _∙_}
-use lib.Dec.{eqb}
-use borrow.Author.Tests.{eqb-true}
-use Rattle.types.specs.Decision.{Place, none, at, Said, holds, short, fails, refused, placed, said, saidOf}
+use Rattle.answers.proofs.Laws.{unplaced, unplaced-placed}
+use Rattle.types.specs.Decision.{Said, holds, short, fails, refused, said, saidOf}
 use Rattle.types.specs.Promises.{OneVerdict, OneDecision}
 use Rattle.types.specs.declared.Verdict.{Verdict}
 use Rattle.types.specs.declared.Verdict.the-variants as verdict
 use Rattle.types.specs.declared.Decision.{Decision}
 use Rattle.types.specs.declared.Decision.the-variants as decision
 
--- the number that stands for a place
-unplaced : Place → ℕ
-unplaced none = 255
-unplaced (at p) = p
-
-unplaced-placed : (p : ℕ) → unplaced (placed p) ≡ p
-unfolding placed unplaced
-unplaced-placed p = go (eqb p 255) refl
-  where
-    go : (t : Bool) → eqb p 255 ≡ t → unplaced (cond t none (at p)) ≡ p
-    go true e = sym (eqb-true p 255 e)
-    go false e = refl
-
 -- the verdict that says so; none says that a pair fails, so there it may be any
 verdictOf : Said → Verdict
 verdictOf (holds m) = verdict.Holds m
 verdictOf (short m) = verdict.Short m
 verdictOf (fails s o n) = verdict.Holds s
-verdictOf (refused r p) = verdict.Refused r (unplaced p)
+verdictOf (refused r p) = verdict.Refused r (unplaced 255 p)
 
 verdict-said : (a : Verdict) → verdictOf (said a) ≡ a
 unfolding verdictOf
 verdict-said (verdict.Holds m) = refl
 verdict-said (verdict.Short m) = refl
-verdict-said (verdict.Refused r p) = rw (unplaced-placed p)
+verdict-said (verdict.Refused r p) = rw (unplaced-placed 255 p)
 
 -- two verdicts that say the same are the same
 pub one-verdict : OneVerdict
@@ -46,13 +30,13 @@ decisionOf : Said → Decision
 decisionOf (holds m) = decision.Holds m
 decisionOf (short m) = decision.Holds m
 decisionOf (fails s o n) = decision.Fails s o n
-decisionOf (refused r p) = decision.Refused r (unplaced p)
+decisionOf (refused r p) = decision.Refused r (unplaced 255 p)
 
 decision-said : (a : Decision) → decisionOf (saidOf a) ≡ a
 unfolding decisionOf
 decision-said (decision.Holds m) = refl
 decision-said (decision.Fails s o n) = refl
-decision-said (decision.Refused r p) = rw (unplaced-placed p)
+decision-said (decision.Refused r p) = rw (unplaced-placed 255 p)
 
 -- two decisions that say the same are the same
 pub one-decision : OneDecision

@@ -1,24 +1,20 @@
 -- The decision on a pair of types and what it writes: document 01, "Types and what they mean", and the order of its refusals. Assumes nothing.
 use Prim.Native.Nat.{ℕ, zero, suc, _+_, _-_}
-use mathlib.Core.Bool.{Bool, true, false, cond}
+use mathlib.Core.Bool.{cond}
 use mathlib.Core.List.{List, [], _∷_, _++_}
-use lib.Dec.{leb, eqb}
+use lib.Dec.{leb}
 use lib.ListN.{length, drop}
 use Rattle.meaning.specs.Allocation.{Allocation, bit}
 use Rattle.meaning.specs.Types.{wellFormed}
 use Rattle.meaning.specs.Written.{written, stretchFrom, stretchTo}
 use Rattle.meaning.specs.declared.SlotType.{SlotType}
 use Rattle.meaning.specs.declared.Kind.{Kind}
+use Rattle.answers.specs.Answers.{Place, none, at, placed}
 use Rattle.types.specs.Least.{onesFrom, leastOnes, firstShort}
 use Rattle.types.specs.declared.Verdict.{Verdict}
 use Rattle.types.specs.declared.Verdict.the-variants as verdict
 use Rattle.types.specs.declared.Decision.{Decision}
 use Rattle.types.specs.declared.Decision.the-variants as decision
-
--- 01: "Every refusal returns number and place (none for later numbers, unless said)"
-pub data Place : Type 0 where
-  none : Place
-  at : ℕ → Place
 
 -- What an answer says in document 01's own terms: the pair holds, with the least ones of any wanted window; it falls short, with that same
 -- number; it fails, with a window start, the ones there and the length of the stretch; or it is refused, with number and place.
@@ -28,19 +24,16 @@ pub data Said : Type 0 where
   fails : ℕ → ℕ → ℕ → Said
   refused : ℕ → Place → Said
 
--- 255 is the number that stands for no place
-unfoldable pub placed : ℕ → Place
-placed p = cond (eqb p 255) none (at p)
-
+-- a place is a byte here, and 255 stands for none
 abbrev pub said : Verdict → Said
 said (verdict.Holds m) = holds m
 said (verdict.Short m) = short m
-said (verdict.Refused r p) = refused r (placed p)
+said (verdict.Refused r p) = refused r (placed 255 p)
 
 abbrev pub saidOf : Decision → Said
 saidOf (decision.Holds m) = holds m
 saidOf (decision.Fails s o n) = fails s o n
-saidOf (decision.Refused r p) = refused r (placed p)
+saidOf (decision.Refused r p) = refused r (placed 255 p)
 
 -- 01: "A pair decision tests giver, then wanted (4, place 0 or 1)"; without an allocation, it then holds or falls short
 unfoldable pub judged : Kind → SlotType → Kind → SlotType → Said
@@ -86,5 +79,5 @@ writing giver wanted out (fails s o n) =
 writing giver wanted out (refused r p) = out
 
 -- the buffer after the decision
-unfoldable pub left : Kind → SlotType → Kind → SlotType → List ℕ → List ℕ
-left gives giver wants wanted out = writing giver wanted out (decided gives giver wants wanted (length out))
+unfoldable pub outAfter : Kind → SlotType → Kind → SlotType → List ℕ → List ℕ
+outAfter gives giver wants wanted out = writing giver wanted out (decided gives giver wants wanted (length out))

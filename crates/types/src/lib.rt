@@ -3,7 +3,7 @@
 // What the answers say is in specs/Decision.antt, and what that means in specs/Promises.antt.
 ghost use mathlib.Core.Path.{_≡_};
 ghost use lib.ListN.{length};
-ghost use Rattle.types.specs.Decision.{said, saidOf, judged, decided, left};
+ghost use Rattle.types.specs.Decision.{said, saidOf, judged, decided, outAfter};
 
 mod allocation;
 mod least;
@@ -62,7 +62,7 @@ pub fn decide(
     out: &mut [u8],
 ) -> Decision
     ensures answer { λ r. ⌜ saidOf r ≡ decided gives giver wants wanted (length (now (out .entry))) ⌝ }
-    ensures buffer { λ r. ⌜ now (out .exit) ≡ left gives giver wants wanted (now (out .entry)) ⌝ }
+    ensures buffer { λ r. ⌜ now (out .exit) ≡ outAfter gives giver wants wanted (now (out .entry)) ⌝ }
 {
     match judge(gives, giver, wants, wanted) {
         Verdict::Holds(least) => Decision::Holds(least),

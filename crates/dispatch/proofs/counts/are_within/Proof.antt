@@ -6,12 +6,12 @@ use borrow.Author.Needs.{needs}
 use Rattle.plans.proofs.All.{all-none, all-done}
 use Rattle.plans.specs.Sound.{all}
 use Rattle.dispatch.proofs.Counting.{over-stops, within-more}
-use Rattle.dispatch.specs.Run.{within}
+use Rattle.dispatch.specs.Run.{leftWithin}
 use Rattle.dispatch.proofs.counts.are_within.Statement.{statement}
 use Rattle.dispatch.proofs.counts.are_within.Tie as tie
 
 abbrev Inv-loop : tie.InvT-loop
-Inv-loop plan left size i₀ i = (i ≤ size) × (all (within plan left) i ≡ true)
+Inv-loop plan left size i₀ i = (i ≤ size) × (all (leftWithin plan left) i ≡ true)
 
 abbrev μ-loop : tie.MeasureT-loop
 μ-loop plan left size i₀ i = size - i

@@ -287,10 +287,11 @@ static uint64_t odd_clock(void)
 /* Any state that is fit for the plan. */
 static void odd_state(const uint32_t *plan, uint64_t *state)
 {
+    uint64_t unused = chance(50) ? 65536 : 1;
     state[0] = odd_clock();
     for (uint32_t i = 0; i < 64; i++) {
         uint32_t served = plan[20 + 6 * i + 4];
-        if (i >= plan[19]) state[1 + i] = chance_below(65536);
+        if (i >= plan[19]) state[1 + i] = chance_below(unused);
         else state[1 + i] = chance(50) ? served : chance_below(served + 1u);
     }
 }

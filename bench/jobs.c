@@ -1,0 +1,150 @@
+/* The jobs of the bench: plans of a given shape, inputs from a seed, and the calls on them. */
+#include "bench.h"
+
+#include "../model/model.h"
+#include "fast/fast.h"
+
+#include <stdio.h>
+#include <stdlib.h>
+#include <string.h>
+
+const struct calls library = {mettulos_decide, mettulos_read, mettulos_fresh, mettulos_step, mettulos_run};
+const struct calls fast = {fast_decide, fast_read, fast_fresh, fast_step, fast_run};
+const struct calls model = {model_decide, model_read, model_fresh, model_step, model_run};
+
+/* ---- plans */
+
+enum { ALIGNED_LEAF = 0, SLIDING_LEAF = 1, HOST = 2, FIRST_NODE_BYTE = 128 };
+
+/* Three quarters of the slots, shared by so many. */
+static struct drafted_type share(uint16_t t, uint32_t sharers)
+{
+    uint32_t c = t * 3u / 4 / sharers;
+    return (struct drafted_type){(uint16_t)(c > 0 ? c : 1), t};
+}
+
+/* A type of this period that asks of the served type all that it can. */
+static struct drafted_type most_wanted(struct drafted_type served, uint8_t kind, uint16_t t)
+{
+    uint32_t answer[4];
+    model_decide(0, served.c, served.t, kind == SLIDING_LEAF, 0, t, NULL, 0, answer, 4);
+    return (struct drafted_type){(uint16_t)answer[1], t};
+}
+
+/* Leaves want in turn what they are served, a sliding type, and an aligned type of a period that has no divisor in common with the served one. */
+static struct drafted_node leaf(uint8_t parent, struct drafted_type served, uint32_t turn)
+{
+    struct drafted_node node = {turn % 3 == 1 ? SLIDING_LEAF : ALIGNED_LEAF, parent, served, served, 0, {0}};
+    if (turn % 3 == 1) node.wanted = most_wanted(served, SLIDING_LEAF, (uint16_t)(2 * served.t + 1));
+    if (turn % 3 == 2) node.wanted = most_wanted(served, ALIGNED_LEAF, (uint16_t)(2 * served.t - 1));
+    return node;
+}
+
+/* Leaves alone, dealt out to the cores, with periods of 64, 128 and 256. */
+static void draft_flat(struct draft *draft, struct shape shape)
+{
+    uint32_t sharers = (shape.nodes + shape.cores - 1u) / shape.cores;
+    for (uint32_t i = 0; i < shape.nodes; i++) {
+        uint16_t t = (uint16_t)(64 << i / shape.cores % 3);
+        draft->nodes[i] = leaf((uint8_t)(i % shape.cores), share(t, sharers), i);
+    }
+}
+
+/* Chains, dealt out to the cores, of hosts below each other with a leaf at the end; periods of 64 in the upper half and 128 in the lower. */
+static void draft_deep(struct draft *draft, struct shape shape)
+{
+    uint32_t chains = shape.nodes / shape.depth, sharers = (chains + shape.cores - 1u) / shape.cores;
+    for (uint32_t i = 0; i < shape.nodes; i++) {
+        uint32_t chain = i / shape.depth, level = i % shape.depth;
+        uint8_t parent = (uint8_t)(level == 0 ? chain % shape.cores : FIRST_NODE_BYTE + i - 1);
+        struct drafted_type served = share(level < shape.depth / 2u ? 64 : 128, sharers);
+        if (level == shape.depth - 1u && shape.special != HOSTS_ALONE) draft->nodes[i] = leaf(parent, served, chain);
+        else draft->nodes[i] = (struct drafted_node){HOST, parent, served, served, 0, {0}};
+    }
+}
+
+static void name_nodes(struct draft *draft, int alike)
+{
+    for (uint32_t i = 0; i < draft->node_count; i++) {
+        struct drafted_node *node = &draft->nodes[i];
+        char name[8];
+        snprintf(name, sizeof name, "node-%02u", (unsigned)i % 100);
+        memset(node->name, 'x', sizeof node->name);
+        node->name_length = alike ? 32 : 7;
+        if (alike) node->name[31] = (uint8_t)(33 + i);
+        else memcpy(node->name, name, 7);
+    }
+}
+
+/* ---- jobs */
+
+void job_of_pair(struct job *job, struct pair pair, size_t room)
+{
+    memset(job, 0, sizeof *job);
+    job->pair = pair;
+    job->room = room;
+}
+
+void job_of_plan(struct job *job, struct shape shape, size_t slots)
+{
+    struct draft draft;
+    memset(job, 0, sizeof *job);
+    memset(&draft, 0, sizeof draft);
+    draft.p = 1000;
+    draft.q = 3;
+    draft.supply_count = shape.cores;
+    draft.node_count = shape.nodes;
+    for (uint32_t i = 0; i < shape.cores; i++) draft.supplies[i] = (struct drafted_type){1, 1};
+    if (shape.depth == 1) draft_flat(&draft, shape);
+    else draft_deep(&draft, shape);
+    name_nodes(&draft, shape.special == NAMES_ALIKE);
+    job->len = draft_bytes(&draft, job->bytes);
+    if (model_read(job->bytes, job->len, job->plan, METTULOS_PLAN) != 0 || model_fresh(job->plan, METTULOS_PLAN, job->state, METTULOS_STATE) != 0) {
+        printf("a plan to be timed is refused\n");
+        exit(1);
+    }
+    chance_seed(1);
+    for (size_t k = 0; k < MOST_SLOTS; k++) {
+        job->supplies[k] = (uint8_t)(chance_bits() | chance_bits());
+        job->declines[k] = chance_bits() & chance_bits();
+    }
+    job->slots = slots;
+    job->room = slots * shape.cores;
+}
+
+/* ---- calls */
+
+void repeat_decide(const struct calls *calls, struct job *job, uint64_t times)
+{
+    struct pair p = job->pair;
+    for (uint64_t i = 0; i < times; i++) {
+        job->answered += calls->decide(p.gives, p.giver_c, p.giver_t, p.wants, p.wanted_c, p.wanted_t, job->out, job->room, job->answer, 4);
+    }
+}
+
+void repeat_read(const struct calls *calls, struct job *job, uint64_t times)
+{
+    for (uint64_t i = 0; i < times; i++) job->answered += calls->read(job->bytes, job->len, job->plan, METTULOS_PLAN);
+}
+
+void repeat_fresh(const struct calls *calls, struct job *job, uint64_t times)
+{
+    for (uint64_t i = 0; i < times; i++) job->answered += calls->fresh(job->plan, METTULOS_PLAN, job->state, METTULOS_STATE);
+}
+
+void repeat_step(const struct calls *calls, struct job *job, uint64_t times)
+{
+    for (uint64_t i = 0; i < times; i++) {
+        size_t k = job->next_slot;
+        job->answered += calls->step(job->plan, METTULOS_PLAN, job->state, METTULOS_STATE, job->supplies[k], job->declines[k], job->grants, 8);
+        job->next_slot = k + 1 < MOST_SLOTS ? k + 1 : 0;
+    }
+}
+
+void repeat_run(const struct calls *calls, struct job *job, uint64_t times)
+{
+    for (uint64_t i = 0; i < times; i++) {
+        job->answered += calls->run(job->plan, METTULOS_PLAN, job->state, METTULOS_STATE, job->supplies, job->slots, job->declines, job->slots, job->out,
+                                    job->room);
+    }
+}

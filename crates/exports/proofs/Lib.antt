@@ -1,10 +1,7 @@
-pub mod Stored
-pub mod Laid
-pub mod Fields
 pub mod Refusing
 pub mod Told
-pub mod Given
-pub mod Back
+pub mod Giving
 pub mod Places
 pub mod Writes
+pub mod Beyond
 pub mod Kept

@@ -17,8 +17,8 @@ use Rattle.answers.specs.declared.Answer.{Answer}
 use Rattle.answers.specs.declared.Answer.the-variants.{Accepted, Refused}
 use Rattle.dispatch.specs.Run.{said}
 use Rattle.dispatch.specs.declared.Outcome.{Outcome}
-use Rattle.exports.specs.Exports.{nowhere, refusal, answerOf, outcomeOf, telling, placeOf, decidingBy, kindOf}
-use Rattle.exports.proofs.Stored.{sets-all}
+use Rattle.exports.specs.Exports.{nowhere, refusal, answerOf, outcomeOf, telling, placeOf, decidingBy, kindNumbered}
+use Rattle.numbers.proofs.Stored.{sets-all}
 
 -- a place that the high half holds
 pub refusal-within : (number place : ℕ) → place < nowhere → number + 4294967296 * place ≡ refusal number place
@@ -60,14 +60,22 @@ module _ (a : Time) (lent : List ℕ) (one : length lent ≡ 1) where
   unfolding telling
   told-refused b r x e s h = rw (eq-eqb (length lent) 1 one, e, s, h)
 
+-- two stores that take up the whole list
+pub two-stored : (l : List ℕ) (a b : ℕ) → length l ≡ 2 → set (set l 0 a) 1 b ≡ a ∷ b ∷ []
+two-stored l a b e = sets-all l (a ∷ b ∷ []) (sym e)
+
+-- and four
+pub four-stored : (l : List ℕ) (a b c d : ℕ) → length l ≡ 4 → set (set (set (set l 0 a) 1 b) 2 c) 3 d ≡ a ∷ b ∷ c ∷ d ∷ []
+four-stored l a b c d e = sets-all l (a ∷ b ∷ c ∷ d ∷ []) (sym e)
+
 -- kind 0 is aligned
-pub kind-aligned : (b : ℕ) → b ≡ 0 → Aligned ≡ kindOf b
-unfolding kindOf
+pub kind-aligned : (b : ℕ) → b ≡ 0 → Aligned ≡ kindNumbered b
+unfolding kindNumbered
 kind-aligned b e = rw e
 
 -- and any other number is taken for sliding
-pub kind-sliding : (b : ℕ) → (b ≡ 0 → ⊥) → Sliding ≡ kindOf b
-unfolding kindOf
+pub kind-sliding : (b : ℕ) → (b ≡ 0 → ⊥) → Sliding ≡ kindNumbered b
+unfolding kindNumbered
 kind-sliding b h = rw (ne-eqb b 0 h)
 
 -- a pair's refusal by place 255 has no place

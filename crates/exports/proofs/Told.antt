@@ -1,5 +1,5 @@
 -- What the exported functions answer and leave in the slices that they were lent: one law a return. Assumes nothing.
-use Prim.Native.Nat.{ℕ, _+_, _-_, _≤_, _<_, _^_, min}
+use Prim.Native.Nat.{ℕ, _+_, _≤_, _<_, min}
 use mathlib.Core.Bool.{Bool, true, false, cond, _&&_}
 use mathlib.Core.List.{List, []}
 use mathlib.Core.Path.{_≡_, refl, ap, _∙_}
@@ -26,7 +26,8 @@ use Rattle.names.proofs.Starts.{start-is}
 use Rattle.reader.specs.Read.{readAnswer, readPlan, nameOf}
 use Rattle.reader.specs.declared.Reading.{Reading}
 use Rattle.reader.proofs.Kept.{hands-out-fit, refused-gives-zeros}
-use Rattle.exports.specs.Layout.{planNumbers}
+use Rattle.numbers.specs.Numbers.{planLaid}
+use Rattle.numbers.proofs.Down.{plan-down}
 use Rattle.exports.specs.Exports.{
   nowhere,
   refusal,
@@ -35,14 +36,14 @@ use Rattle.exports.specs.Exports.{
   minuting,
   slotting,
   decidingBy,
-  kindOf,
+  kindNumbered,
   deciding,
   answerOf,
   reading,
   span,
   naming,
 }
-use Rattle.exports.proofs.Stored.{two-stored}
+use Rattle.exports.proofs.Refusing.{two-stored}
 
 -- slot times
 module _ (tick : Tick) (a : Time) (lent after : List ℕ) (x : ℕ) (told : (x, after) ≡ telling (times.said a) lent) where
@@ -80,7 +81,7 @@ module _ (gives : ℕ) (giver : SlotType) (wants : ℕ) (wanted : SlotType) (out
     wanted-unknown four h l e = rw (eq-eqb (length lent) 4 four, le-leb gives 1 h, lt-leb wants 1 l, e)
 
   -- and kinds 0 and 1
-  pub pair-told : length lent ≡ 4 → gives ≤ 1 → wants ≤ 1 → (k k' : Kind) → k ≡ kindOf gives → k' ≡ kindOf wants →
+  pub pair-told : length lent ≡ 4 → gives ≤ 1 → wants ≤ 1 → (k k' : Kind) → k ≡ kindNumbered gives → k' ≡ kindNumbered wants →
       (d : Decision) → saidOf d ≡ decided k giver k' wanted (length out) → (room : List ℕ) → room ≡ outAfter k giver k' wanted out →
       (x : ℕ) (after : List ℕ) → (x, after) ≡ decidingBy (saidOf d) lent → (x, room, after) ≡ deciding gives giver wants wanted out lent
   unfolding deciding
@@ -97,29 +98,22 @@ module _ (bytes lent : List ℕ) where
   unfolding reading
   read-misfit h x e = rw (ne-eqb (length lent) 404 h, e)
 
-  -- the value that is handed out is laid down, whatever the answer
-  pub read-laid : length lent ≡ 404 → (r : Reading) → r ≡ readPlan bytes → (after : List ℕ) → after ≡ planNumbers (r .plan) →
+  -- the counts of a value that is handed out are small
+  few : (readPlan bytes .plan .cores ≤ 8) × (readPlan bytes .plan .size ≤ 64)
+  unfolding zeroPlan
+  few = go (readPlan bytes .answer) refl
+    where
+      go : (a : Answer) → readPlan bytes .answer ≡ a → (readPlan bytes .plan .cores ≤ 8) × (readPlan bytes .plan .size ≤ 64)
+      go Accepted e = let sound = hands-out-fit bytes e .sound in (sound .eight-cores, sound .sixty-four-nodes)
+      go (Refused r k) e = let zeros = refused-gives-zeros bytes r k e in (rw zeros (omega arith), rw zeros (omega arith))
+
+  -- so that it is laid down, whatever the answer
+  pub read-laid : length lent ≡ 404 → (r : Reading) → r ≡ readPlan bytes → (b : Bool) (after : List ℕ) → (b, after) ≡ planLaid (r .plan) lent →
       (x : ℕ) → x ≡ answerOf (r .answer) → (x, after) ≡ reading bytes lent
   unfolding reading
-  read-laid whole r is after laid x e = rw (eq-eqb (length lent) 404 whole, laid, e, is)
-
--- the counts of a value that is handed out are small
-small : (s : List ℕ) → (readPlan s .plan .cores ≤ 8) × (readPlan s .plan .size ≤ 64)
-unfolding zeroPlan
-small s = go (readPlan s .answer) refl
-  where
-    go : (a : Answer) → readPlan s .answer ≡ a → (readPlan s .plan .cores ≤ 8) × (readPlan s .plan .size ≤ 64)
-    go Accepted e = let sound = hands-out-fit s e .sound in (sound .eight-cores, sound .sixty-four-nodes)
-    go (Refused r k) e = let zeros = refused-gives-zeros s r k e in (rw zeros (omega arith), rw zeros (omega arith))
-
-module _ (s : List ℕ) (r : Reading) (e : r ≡ readPlan s) where
-  -- the number of supplies fits 32 bits
-  pub cores-small : r .plan .cores < 2 ^ 32
-  cores-small = let few : r .plan .cores ≤ 8 = rw e (small s .0) in omega arith
-
-  -- and so does the number of nodes
-  pub size-small : r .plan .size < 2 ^ 32
-  size-small = let few : r .plan .size ≤ 64 = rw e (small s .1) in omega arith
+  read-laid whole r is b after laid x e =
+      let down = plan-down (readPlan bytes .plan) lent whole (omega (arith, few .0)) (omega (arith, few .1)) b after (rw is at laid) in
+      rw (eq-eqb (length lent) 404 whole, down, e, is)
 
 -- names
 module _ (bytes : List ℕ) (i : ℕ) (lent : List ℕ) where

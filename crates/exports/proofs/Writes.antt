@@ -11,12 +11,11 @@ use Rattle.types.specs.Decision.{decided, writing}
 use Rattle.types.specs.Decision as pairs
 use Rattle.answers.specs.declared.Answer.{Answer}
 use Rattle.answers.specs.declared.Answer.the-variants.{Accepted, Refused}
-use Rattle.plans.specs.Plan.{zeroPlan}
 use Rattle.plans.specs.declared.Plan.{Plan}
-use Rattle.layout.specs.Layout.{kindByte, parentByte, lays}
 use Rattle.rules.specs.Check.{fits}
 use Rattle.reader.specs.Read.{readPlan}
 use Rattle.reader.proofs.Kept.{refused-gives-zeros}
+use Rattle.dispatch.specs.Slot.{unsupplied}
 use Rattle.dispatch.specs.Run.{outcome, Course, outBy, ran, outAfter, grantsBy, stepped, started}
 use Rattle.dispatch.specs.Run as runs
 use Rattle.dispatch.specs.declared.State.{State}
@@ -24,9 +23,26 @@ use Rattle.dispatch.specs.declared.Ran.{Ran}
 use Rattle.dispatch.specs.declared.Stepped.{Stepped}
 use Rattle.dispatch.specs.declared.Outcome.{Outcome}
 use Rattle.dispatch.specs.declared.Outcome.the-variants.{Done, Beyond, Unfit, Misfit}
-use Rattle.exports.specs.Layout.{typeNumbers, nodeNumbers, typePart, nodePart, planNumbers, planOfNumbers, stateNumbers, stateOfNumbers, isPlan}
+use Rattle.numbers.specs.Numbers.{planNumbers, planOfNumbers, stateNumbers, stateOfNumbers, isState}
+use Rattle.numbers.proofs.Laid.{zeros-laid}
 use Rattle.exports.specs.Exports as exports
-use Rattle.exports.specs.Exports.{misfit, refusal, keeping, telling, deciding, decidingBy, kindOf, answerOf, reading, areFit, startedBy, steppedBy, ranBy, areWhole, freshening, stepping, running}
+use Rattle.exports.specs.Exports.{
+  misfit,
+  refusal,
+  keeping,
+  telling,
+  deciding,
+  decidingBy,
+  kindNumbered,
+  answerOf,
+  reading,
+  steppedBy,
+  ranBy,
+  areWhole,
+  freshening,
+  stepping,
+  running,
+}
 use Rattle.exports.specs.Promises.{RefusedTime, RefusedPair, RefusedRun, RefusedStep, RefusedRead, RefusedFresh}
 
 -- slot times
@@ -43,7 +59,7 @@ refused-time s lent = go (eqb (length lent) 1) s
 pub refused-pair : RefusedPair
 unfolding deciding pairs.outAfter
 refused-pair gives giver wants wanted out lent =
-    go (eqb (length lent) 4) (leb gives 1) (leb wants 1) (decided (kindOf gives) giver (kindOf wants) wanted (length out))
+    go (eqb (length lent) 4) (leb gives 1) (leb wants 1) (decided (kindNumbered gives) giver (kindNumbered wants) wanted (length out))
   where
     go : (a b c : Bool) (d : pairs.Said) →
         let by = decidingBy d lent in
@@ -62,7 +78,7 @@ refused-pair gives giver wants wanted out lent =
 pub refused-run : RefusedRun
 unfolding running ranBy exports.outBy ran outAfter
 refused-run plan state supplies declines out =
-    go (areWhole plan state) (areFit plan state) (outcome p s (length supplies) (length declines) (length out)) _ _ _
+    go (areWhole plan state) (isState state) (outcome p s (length supplies) (length declines) (length out)) _ _ _
   where
     p : Plan
     p = planOfNumbers plan
@@ -86,7 +102,7 @@ refused-run plan state supplies declines out =
 pub refused-step : RefusedStep
 unfolding stepping steppedBy stepped
 refused-step plan state supplied declines grants whole eight =
-    rw (whole, eq-eqb (length grants) 8 eight) (go (areFit plan state) (outcome p s 1 1 (p .cores)) _ _)
+    rw (whole, eq-eqb (length grants) 8 eight) (go (isState state) (outcome p s 1 1 (p .cores)) _ _)
   where
     p : Plan
     p = planOfNumbers plan
@@ -97,7 +113,7 @@ refused-step plan state supplied declines grants whole eight =
     go : (f : Bool) (o : Outcome) (after : State) (given : List ℕ) →
         let r : Stepped = cond f (record { outcome = o; state = after; grants = grantsBy o given }) exports.unfitStepped in
         let kept = keeping (runs.said (r .outcome)) (r .state) state in
-        (kept .0 ≡ 0 → ⊥) → (kept .1 ≡ state) × (r .grants ≡ replicate 8 255)
+        (kept .0 ≡ 0 → ⊥) → (kept .1 ≡ state) × (r .grants ≡ replicate 8 unsupplied)
     go true Done after given h = absurd (h refl)
     go true Beyond after given h = (refl, refl)
     go true Unfit after given h = (refl, refl)
@@ -105,28 +121,21 @@ refused-step plan state supplied declines grants whole eight =
     go false o after given h = (refl, refl)
 
 -- reads
-zeros : planNumbers zeroPlan ≡ replicate 404 0
-unfolding planNumbers zeroPlan lays typePart nodePart nodeNumbers typeNumbers kindByte parentByte
-zeros = refl
-
--- a refused read gives zeros
 pub refused-read : RefusedRead
 unfolding reading answerOf
 refused-read bytes lent whole = rw (eq-eqb (length lent) 404 whole) (go (readPlan bytes .answer) refl)
   where
     go : (a : Answer) → readPlan bytes .answer ≡ a → (answerOf a ≡ 0 → ⊥) → planNumbers (readPlan bytes .plan) ≡ replicate 404 0
     go Accepted e h = absurd (h refl)
-    go (Refused r k) e h = ap planNumbers (refused-gives-zeros bytes r k e) ∙ zeros
+    go (Refused r k) e h = ap planNumbers (refused-gives-zeros bytes r k e) ∙ zeros-laid
 
 -- fresh starts
 pub refused-fresh : RefusedFresh
-unfolding freshening startedBy started stateNumbers
-refused-fresh plan lent whole = rw whole (go (isPlan plan) (fits (planOfNumbers plan)) _)
+unfolding freshening started stateNumbers
+refused-fresh plan lent whole = rw whole (go (fits (planOfNumbers plan)) _)
   where
-    go : (b f : Bool) (left : List ℕ) →
-        let r : Ran =
-        cond b (cond f (record { outcome = Done; state = record { clock = 0; left = left } }) exports.unfitRan) exports.unfitRan in
+    go : (f : Bool) (left : List ℕ) →
+        let r : Ran = cond f (record { outcome = Done; state = record { clock = 0; left = left } }) exports.unfitRan in
         (exports.outcomeOf (runs.said (r .outcome)) ≡ 0 → ⊥) → stateNumbers (r .state) ≡ replicate 65 0
-    go true true left h = absurd (h refl)
-    go true false left h = refl
-    go false f left h = refl
+    go true left h = absurd (h refl)
+    go false left h = refl

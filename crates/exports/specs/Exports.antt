@@ -18,13 +18,14 @@ use Rattle.answers.specs.declared.Answer.{Answer}
 use Rattle.answers.specs.declared.Answer.the-variants.{Accepted, Refused}
 use Rattle.decode.specs.Positions.{nameStart}
 use Rattle.reader.specs.Read.{readPlan, nameOf}
+use Rattle.dispatch.specs.Slot.{unsupplied}
 use Rattle.dispatch.specs.Run.{zeroState, started, ran, stepped, said}
 use Rattle.dispatch.specs.Run as runs
 use Rattle.dispatch.specs.declared.State.{State}
 use Rattle.dispatch.specs.declared.Outcome.the-variants.{Unfit}
 use Rattle.dispatch.specs.declared.Ran.{Ran}
 use Rattle.dispatch.specs.declared.Stepped.{Stepped}
-use Rattle.exports.specs.Layout.{planNumbers, planOfNumbers, isPlan, stateNumbers, stateOfNumbers, isState}
+use Rattle.numbers.specs.Numbers.{planNumbers, planOfNumbers, stateNumbers, stateOfNumbers, isState}
 
 -- A refusal: its number in the low half, its place in the high half. A place that the half does not hold, or none, is `nowhere`; no read has one that
 -- is cut (Promises).
@@ -71,16 +72,16 @@ decidingBy (pairs.fails s o n) lent = (0, 0 ∷ s ∷ o ∷ n ∷ [])
 decidingBy (pairs.refused r p) lent = (refusal r (placeOf p), lent)
 
 -- 0 aligned, 1 sliding
-unfoldable pub kindOf : ℕ → Kind
-kindOf b = cond (eqb b 0) Aligned Sliding
+unfoldable pub kindNumbered : ℕ → Kind
+kindNumbered b = cond (eqb b 0) Aligned Sliding
 
 -- mettulos_decide: the answer, then the allocation's buffer, then the four numbers. The kinds are tested before the types.
 unfoldable pub deciding : ℕ → SlotType → ℕ → SlotType → List ℕ → List ℕ → ℕ × List ℕ × List ℕ
 deciding gives giver wants wanted out lent =
-    let by = decidingBy (decided (kindOf gives) giver (kindOf wants) wanted (length out)) lent in
+    let by = decidingBy (decided (kindNumbered gives) giver (kindNumbered wants) wanted (length out)) lent in
     cond (eqb (length lent) 4)
     (cond (leb gives 1)
-    (cond (leb wants 1) (by .0, pairs.outAfter (kindOf gives) giver (kindOf wants) wanted out, by .1) (refusal 5 1, out, lent))
+    (cond (leb wants 1) (by .0, pairs.outAfter (kindNumbered gives) giver (kindNumbered wants) wanted out, by .1) (refusal 5 1, out, lent))
     (refusal 5 0, out, lent))
     (misfit, out, lent)
 
@@ -106,31 +107,26 @@ abbrev pub outcomeOf : runs.Said → ℕ
 outcomeOf runs.done = 0
 outcomeOf (runs.refused r) = refusal r nowhere
 
--- Numbers out of their fields are answered as an unfit value is, by 16.
+-- Numbers out of their fields are answered as an unfit value is, by 16 (Promises). A plan's say the plan value of zeros, which is not fit. A state's say
+-- one of zeros, which may be, so they are told apart here.
 abbrev pub unfitRan : Ran
 unfitRan = record { outcome = Unfit; state = zeroState }
 
 abbrev pub unfitStepped : Stepped
-unfitStepped = record { outcome = Unfit; state = zeroState; grants = replicate 8 255 }
+unfitStepped = record { outcome = Unfit; state = zeroState; grants = replicate 8 unsupplied }
 
-unfoldable pub areFit : List ℕ → List ℕ → Bool
-areFit plan state = isPlan plan && isState state
-
--- a fresh start, a step, a run and its room, of the values that the numbers say
-unfoldable pub startedBy : List ℕ → Ran
-startedBy plan = cond (isPlan plan) (started (planOfNumbers plan)) unfitRan
-
+-- a step, a run and its room, of the values that the numbers say
 unfoldable pub steppedBy : List ℕ → List ℕ → ℕ → ℕ → Stepped
 steppedBy plan state supplied declines =
-    cond (areFit plan state) (stepped (planOfNumbers plan) (stateOfNumbers state) supplied declines) unfitStepped
+    cond (isState state) (stepped (planOfNumbers plan) (stateOfNumbers state) supplied declines) unfitStepped
 
 unfoldable pub ranBy : List ℕ → List ℕ → List ℕ → List ℕ → ℕ → Ran
 ranBy plan state supplies declines room =
-    cond (areFit plan state) (ran (planOfNumbers plan) (stateOfNumbers state) supplies declines room) unfitRan
+    cond (isState state) (ran (planOfNumbers plan) (stateOfNumbers state) supplies declines room) unfitRan
 
 unfoldable pub outBy : List ℕ → List ℕ → List ℕ → List ℕ → List ℕ → List ℕ
 outBy plan state supplies declines out =
-    cond (areFit plan state) (runs.outAfter (planOfNumbers plan) (stateOfNumbers state) supplies declines out) out
+    cond (isState state) (runs.outAfter (planOfNumbers plan) (stateOfNumbers state) supplies declines out) out
 
 -- 01: a refusal "hands back the given state": it is written only where the call was done
 abbrev pub keeping : runs.Said → State → List ℕ → ℕ × List ℕ
@@ -144,7 +140,8 @@ areWhole plan state = eqb (length plan) 404 && eqb (length state) 65
 -- mettulos_fresh: the state's numbers, which are zeros where the value is refused
 unfoldable pub freshening : List ℕ → List ℕ → ℕ × List ℕ
 freshening plan lent =
-    cond (areWhole plan lent) (outcomeOf (said (startedBy plan .outcome)), stateNumbers (startedBy plan .state)) (misfit, lent)
+    let s = started (planOfNumbers plan) in
+    cond (areWhole plan lent) (outcomeOf (said (s .outcome)), stateNumbers (s .state)) (misfit, lent)
 
 -- mettulos_step: the state, and the eight answers, which are 255 where it is refused
 unfoldable pub stepping : List ℕ → List ℕ → ℕ → ℕ → List ℕ → ℕ × List ℕ × List ℕ

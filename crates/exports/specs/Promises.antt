@@ -1,62 +1,19 @@
--- What is promised of the layout, and of what one call hands to the next. Why each holds is in proofs/: Kept, Places and Writes. Assumes nothing.
+-- What is promised of what one call hands to the next, and of refusals. Why each holds is in proofs/: Kept, Places, Writes and Beyond.
+-- Assumes nothing.
 use Prim.Native.Nat.{ℕ, _/_, _%_, _≤_, _<_, min}
-use mathlib.Core.Bool.{true}
+use mathlib.Core.Bool.{true, false, _&&_}
 use mathlib.Core.List.{List}
 use mathlib.Core.Path.{_≡_}
 use lib.ListN.{length, getD, take, drop, replicate}
 use Rattle.ticks.specs.Times.{Said}
 use Rattle.meaning.specs.declared.SlotType.{SlotType}
 use Rattle.answers.specs.declared.Answer.the-variants.{Accepted, Refused}
-use Rattle.plans.specs.Plan.{zeroType, zeroNode}
-use Rattle.plans.specs.declared.Parent.{Parent}
-use Rattle.plans.specs.declared.Parent.the-variants.{Supply, Node as Under}
-use Rattle.plans.specs.declared.Plan.{Plan}
 use Rattle.reader.specs.Read.{readPlan, nameOf}
 use Rattle.layout.specs.Promises.{Bytes}
-use Rattle.dispatch.specs.declared.State.{State}
-use Rattle.exports.specs.Layout.{planNumbers, planOfNumbers, isPlan, stateNumbers, stateOfNumbers, isState}
+use Rattle.dispatch.specs.Slot.{unsupplied}
+use Rattle.numbers.specs.Numbers.{isPlan, isState}
+use Rattle.numbers.specs.Promises.{LaidOut}
 use Rattle.exports.specs.Exports.{nowhere, refusal, telling, deciding, reading, span, areWhole, freshening, stepping, running}
-
--- a parent that a parent byte can name
-abbrev pub Nameable : Parent → Type 0
-Nameable (Supply s) = s < 128
-Nameable (Under h) = h < 128
-
--- a type whose numbers are of 16 bits
-pub record Short (a : SlotType) : Type 0 where
-  pub c : a .c < 65536
-  pub t : a .t < 65536
-
--- a plan value as the code can hold one: its arrays are whole, and its numbers within their machine types; with parents that a parent byte can name
-pub record Held (plan : Plan) : Type 0 where
-  pub supplies-whole : length (plan .supplies) ≡ 8
-  pub nodes-whole : length (plan .nodes) ≡ 64
-  pub supplies : (i : ℕ) → i < 8 → Short (getD (plan .supplies) i zeroType)
-  pub wanted : (i : ℕ) → i < 64 → Short (getD (plan .nodes) i zeroNode .wanted)
-  pub served : (i : ℕ) → i < 64 → Short (getD (plan .nodes) i zeroNode .served)
-  pub parents : (i : ℕ) → i < 64 → Nameable (getD (plan .nodes) i zeroNode .parent)
-
--- a state as the code can hold one
-pub record HeldState (state : State) : Type 0 where
-  pub whole : length (state .left) ≡ 64
-  pub counts : (i : ℕ) → i < 64 → getD (state .left) i 0 < 65536
-
--- A value that is laid out takes its 404 or 65 numbers, each within its field, and reading them back gives the value again.
-pub record LaidOut (plan : Plan) : Type 0 where
-  pub long : length (planNumbers plan) ≡ 404
-  pub fit : isPlan (planNumbers plan) ≡ true
-  pub back : planOfNumbers (planNumbers plan) ≡ plan
-
-abbrev pub PlanLaidOut : Type 0
-PlanLaidOut = (plan : Plan) → Held plan → LaidOut plan
-
-pub record StateLaidOut (state : State) : Type 0 where
-  pub long : length (stateNumbers state) ≡ 65
-  pub fit : isState (stateNumbers state) ≡ true
-  pub back : stateOfNumbers (stateNumbers state) ≡ state
-
-abbrev pub EveryStateLaidOut : Type 0
-EveryStateLaidOut = (state : State) → HeldState state → StateLaidOut state
 
 -- The value of an accepted plan is handed from the read to every call after it as it was read.
 abbrev pub HandedOn : Type 0
@@ -101,7 +58,7 @@ RefusedRun =
 abbrev pub RefusedStep : Type 0
 RefusedStep =
     (plan state : List ℕ) (supplied declines : ℕ) (grants : List ℕ) → areWhole plan state ≡ true → length grants ≡ 8 →
-    let w = stepping plan state supplied declines grants in (w .0 ≡ 0 → ⊥) → (w .1 ≡ state) × (w .2 ≡ replicate 8 255)
+    let w = stepping plan state supplied declines grants in (w .0 ≡ 0 → ⊥) → (w .1 ≡ state) × (w .2 ≡ replicate 8 unsupplied)
 
 -- of a read, zeros
 abbrev pub RefusedRead : Type 0
@@ -110,3 +67,19 @@ RefusedRead = (bytes lent : List ℕ) → length lent ≡ 404 → let w = readin
 -- of a fresh start, zeros
 abbrev pub RefusedFresh : Type 0
 RefusedFresh = (plan lent : List ℕ) → areWhole plan lent ≡ true → let w = freshening plan lent in (w .0 ≡ 0 → ⊥) → w .1 ≡ replicate 65 0
+
+-- include/mettulos.h: numbers beyond their field, in unused entries too, "make the value unfit: 16", once the lengths are right. Of a fresh start:
+abbrev pub BeyondFresh : Type 0
+BeyondFresh = (plan lent : List ℕ) → areWhole plan lent ≡ true → isPlan plan ≡ false → freshening plan lent .0 ≡ refusal 16 nowhere
+
+-- of a step:
+abbrev pub BeyondStep : Type 0
+BeyondStep =
+    (plan state : List ℕ) (supplied declines : ℕ) (grants : List ℕ) → areWhole plan state ≡ true → length grants ≡ 8 →
+    (isPlan plan && isState state) ≡ false → stepping plan state supplied declines grants .0 ≡ refusal 16 nowhere
+
+-- of a run, before its other lengths are looked at:
+abbrev pub BeyondRun : Type 0
+BeyondRun =
+    (plan state supplies declines out : List ℕ) → areWhole plan state ≡ true → (isPlan plan && isState state) ≡ false →
+    running plan state supplies declines out .0 ≡ refusal 16 nowhere

@@ -1,34 +1,16 @@
 // A pair's decision, laid down in four numbers.
 ghost use mathlib.Core.Path.{_≡_};
-ghost use Prim.Native.Nat.{_≤_};
 ghost use lib.ListN.{length};
 ghost use mathlib.Core.List.{[], _∷_};
 ghost use Rattle.answers.specs.Answers.{placed};
 ghost use Rattle.types.specs.Decision as pairs;
-ghost use Rattle.exports.specs.Exports.{kindOf, placeOf, refusal, decidingBy, deciding};
+ghost use Rattle.exports.specs.Exports.{kindNumbered, placeOf, refusal, decidingBy};
 use meaning::Kind;
-use meaning::SlotType;
 use types::Decision;
 
-// The decision on kinds 0 and 1.
-pub fn decide(
-    gives: u8,
-    giver: SlotType,
-    wants: u8,
-    wanted: SlotType,
-    out: &mut [u8],
-    answer: &mut [u32],
-) -> u64
-    requires { ⌜ (length (now answer) ≡ 4) × ((gives ≤ 1) × (wants ≤ 1)) ⌝ }
-    ensures { λ r. ⌜ (r, now (out .exit), now (answer .exit)) ≡
-        deciding gives giver wants wanted (now (out .entry)) (now (answer .entry)) ⌝ }
-{
-    let d = types::decide(kind_of(gives), giver, kind_of(wants), wanted, out);
-    tell(d, answer)
-}
-
-fn kind_of(b: u8) -> Kind
-    ensures { λ r. ⌜ r ≡ kindOf b ⌝ }
+// Kinds 0 and 1; another is refused before it comes here.
+pub fn kind_of(b: u8) -> Kind
+    ensures { λ r. ⌜ r ≡ kindNumbered b ⌝ }
 {
     match b {
         0 => Kind::Aligned,
@@ -36,7 +18,8 @@ fn kind_of(b: u8) -> Kind
     }
 }
 
-fn tell(d: Decision, answer: &mut [u32]) -> u64
+// What a decision answers. Its four numbers are laid down where it is not refused.
+pub fn tell(d: Decision, answer: &mut [u32]) -> u64
     requires { ⌜ length (now answer) ≡ 4 ⌝ }
     ensures { λ r. ⌜ (r, now (answer .exit)) ≡ decidingBy (pairs.saidOf d) (now (answer .entry)) ⌝ }
 {

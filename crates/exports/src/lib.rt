@@ -1,14 +1,11 @@
 // Mettulos for C: the functions of include/mettulos.h. Each takes the numbers apart, makes one call of a proved crate, and lays the answer down in the
-// slices that it was lent. What each answers and leaves in those slices is said in specs/Exports.antt, and how values lie in numbers in specs/Layout.antt.
+// slices that it was lent. What each answers and leaves in those slices is said in specs/Exports.antt; how values lie in numbers is said by crate numbers.
 ghost use mathlib.Core.Path.{_≡_};
 ghost use Rattle.exports.specs.Exports.{starting, minuting, slotting, deciding, reading, naming, freshening, stepping, running};
 
 mod decisions;
-mod laying;
 mod refusals;
 mod slots;
-mod states;
-mod values;
 
 use meaning::SlotType;
 use ticks::Tick;
@@ -28,14 +25,6 @@ pub extern "C" fn mettulos_decide(
     ensures { λ r. ⌜ (r, now (out .exit), now (answer .exit)) ≡
         deciding gives (record { c = «giver_c»; t = «giver_t» }) wants (record { c = «wanted_c»; t = «wanted_t» }) (now (out .entry)) (now (answer .entry)) ⌝ }
 {
-    let giver = SlotType {
-        c: giver_c,
-        t: giver_t,
-    };
-    let wanted = SlotType {
-        c: wanted_c,
-        t: wanted_t,
-    };
     if answer.len() != 4 {
         return refusals::refusal(17, refusals::NOWHERE);
     }
@@ -45,7 +34,17 @@ pub extern "C" fn mettulos_decide(
     if 1 < wants {
         return refusals::refusal(5, 1);
     }
-    decisions::decide(gives, giver, wants, wanted, out, answer)
+    let giver = SlotType {
+        c: giver_c,
+        t: giver_t,
+    };
+    let wanted = SlotType {
+        c: wanted_c,
+        t: wanted_t,
+    };
+    let giving = decisions::kind_of(gives);
+    let d = types::decide(giving, giver, decisions::kind_of(wants), wanted, out);
+    decisions::tell(d, answer)
 }
 
 // Reads a plan of any bytes.
@@ -58,7 +57,8 @@ pub extern "C" fn mettulos_read(bytes: &[u8], plan: &mut [u32]) -> u64
     }
     let read = reader::read(bytes);
     let value = read.plan;
-    laying::put_plan(value, plan);
+    // it always does: the length is right, and a value that is read has few supplies and nodes
+    numbers::put_plan(value, plan);
     let answer = read.answer;
     refusals::of_answer(answer)
 }
@@ -87,12 +87,13 @@ pub extern "C" fn mettulos_name(bytes: &[u8], i: usize, answer: &mut [u64]) -> u
 pub extern "C" fn mettulos_fresh(plan: &[u32], state: &mut [u64]) -> u64
     ensures { λ r. ⌜ (r, now (state .exit)) ≡ freshening (now (plan .entry)) (now (state .entry)) ⌝ }
 {
-    if !states::are_whole(plan, state) {
+    if !slots::are_whole(plan, state) {
         return refusals::refusal(17, refusals::NOWHERE);
     }
-    let ran = slots::start(plan);
+    let ran = dispatch::fresh(numbers::plan_of(plan));
     let after = ran.state;
-    states::put_state(after, state);
+    // whatever the outcome: a refused start gives zeros
+    numbers::put_state(after, state);
     let outcome = ran.outcome;
     refusals::of_outcome(outcome)
 }
@@ -109,7 +110,7 @@ pub extern "C" fn mettulos_step(
     ensures { λ r. ⌜ (r, now (state .exit), now (grants .exit)) ≡
         stepping (now (plan .entry)) (now (state .entry)) supplied declines (now (grants .entry)) ⌝ }
 {
-    if !states::are_whole(plan, state) {
+    if !slots::are_whole(plan, state) {
         return refusals::refusal(17, refusals::NOWHERE);
     }
     if grants.len() != 8 {
@@ -120,7 +121,7 @@ pub extern "C" fn mettulos_step(
     slots::put_grants(answers, grants);
     let outcome = stepped.outcome;
     let after = stepped.state;
-    states::keep(outcome, after, state)
+    slots::keep(outcome, after, state)
 }
 
 // As many slots as there are supply bytes.
@@ -135,13 +136,13 @@ pub extern "C" fn mettulos_run(
     ensures { λ r. ⌜ (r, now (state .exit), now (out .exit)) ≡
         running (now (plan .entry)) (now (state .entry)) (now (supplies .entry)) (now (declines .entry)) (now (out .entry)) ⌝ }
 {
-    if !states::are_whole(plan, state) {
+    if !slots::are_whole(plan, state) {
         return refusals::refusal(17, refusals::NOWHERE);
     }
     let ran = slots::run(plan, state, supplies, declines, out);
     let outcome = ran.outcome;
     let after = ran.state;
-    states::keep(outcome, after, state)
+    slots::keep(outcome, after, state)
 }
 
 // The start of slot n, in microseconds.

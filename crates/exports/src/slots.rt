@@ -1,79 +1,52 @@
 // Giving out slots from numbers: those out of their fields are answered as an unfit value is.
 ghost use mathlib.Core.Path.{_≡_};
 ghost use lib.ListN.{length};
-ghost use Rattle.dispatch.specs.Run.{zeroState};
-ghost use Rattle.exports.specs.Exports.{areFit, startedBy, steppedBy, ranBy, outBy};
+ghost use Rattle.dispatch.specs.Run.{said};
+ghost use Rattle.exports.specs.Exports.{areWhole, steppedBy, ranBy, outBy, keeping};
 use dispatch::Outcome;
 use dispatch::Ran;
 use dispatch::State;
 use dispatch::Stepped;
 
-pub fn start(plan: &[u32]) -> Ran
-    requires { ⌜ length (now plan) ≡ 404 ⌝ }
-    ensures { λ r. ⌜ r ≡ startedBy (now (plan .entry)) ⌝ }
+// Whether a plan and a state have the lengths that they are to have.
+pub fn are_whole(plan: &[u32], state: &[u64]) -> bool
+    ensures { λ r. ⌜ r ≡ areWhole (now (plan .entry)) (now (state .entry)) ⌝ }
 {
-    if !crate::values::is_plan(plan) {
-        return Ran {
-            outcome: Outcome::Unfit,
-            state: no_state(),
-        };
-    }
-    dispatch::fresh(crate::values::plan_of(plan))
+    plans::both(plan.len() == 404, state.len() == 65)
 }
 
+// One slot, of the values that the numbers say. What state an unfit step hands back does not matter: it is not laid down.
 pub fn step(plan: &[u32], state: &[u64], supplied: u8, declines: u64) -> Stepped
-    requires { ⌜ (length (now plan) ≡ 404) × (length (now state) ≡ 65) ⌝ }
     ensures { λ r. ⌜ r ≡ steppedBy (now (plan .entry)) (now (state .entry)) supplied declines ⌝ }
 {
-    if !are_fit(plan, state) {
+    let given = numbers::state_of(state);
+    let before = given.state;
+    if !given.fit {
+        let none = [255; 8];
         return Stepped {
             outcome: Outcome::Unfit,
-            state: no_state(),
-            grants: [255; 8],
+            state: before,
+            grants: none,
         };
     }
-    dispatch::step(
-        crate::values::plan_of(plan),
-        crate::states::state_of(state),
-        supplied,
-        declines,
-    )
+    dispatch::step(numbers::plan_of(plan), before, supplied, declines)
 }
 
+// A run, in the same way.
 pub fn run(plan: &[u32], state: &[u64], supplies: &[u8], declines: &[u64], out: &mut [u8]) -> Ran
-    requires { ⌜ (length (now plan) ≡ 404) × (length (now state) ≡ 65) ⌝ }
     ensures result { λ r. ⌜ r ≡ ranBy (now (plan .entry)) (now (state .entry)) (now (supplies .entry)) (now (declines .entry)) (length (now (out .entry))) ⌝ }
     ensures buffer { λ r. ⌜ now (out .exit) ≡
         outBy (now (plan .entry)) (now (state .entry)) (now (supplies .entry)) (now (declines .entry)) (now (out .entry)) ⌝ }
 {
-    if !are_fit(plan, state) {
+    let given = numbers::state_of(state);
+    let before = given.state;
+    if !given.fit {
         return Ran {
             outcome: Outcome::Unfit,
-            state: no_state(),
+            state: before,
         };
     }
-    dispatch::run(
-        crate::values::plan_of(plan),
-        crate::states::state_of(state),
-        supplies,
-        declines,
-        out,
-    )
-}
-
-fn are_fit(plan: &[u32], state: &[u64]) -> bool
-    requires { ⌜ (length (now plan) ≡ 404) × (length (now state) ≡ 65) ⌝ }
-    ensures { λ r. ⌜ r ≡ areFit (now (plan .entry)) (now (state .entry)) ⌝ }
-{
-    plans::both(crate::values::is_plan(plan), crate::states::is_state(state))
-}
-
-// The state of zeros.
-fn no_state() -> State
-    ensures { λ r. ⌜ r ≡ zeroState ⌝ }
-{
-    let left = [0; 64];
-    State { clock: 0, left }
+    dispatch::run(numbers::plan_of(plan), before, supplies, declines, out)
 }
 
 // The eight answers of a step.
@@ -86,4 +59,16 @@ pub fn put_grants(answers: [u8; 8], out: &mut [u8])
         out[i] = answers[i];
         i += 1;
     }
+}
+
+// What a step or a run answers. The state is laid down where it was done, and else left as it was.
+pub fn keep(outcome: Outcome, after: State, state: &mut [u64]) -> u64
+    requires { ⌜ length (now state) ≡ 65 ⌝ }
+    ensures { λ r. ⌜ (r, now (state .exit)) ≡ keeping (said outcome) after (now (state .entry)) ⌝ }
+{
+    let Outcome::Done = outcome else {
+        return crate::refusals::of_outcome(outcome);
+    };
+    numbers::put_state(after, state);
+    0
 }

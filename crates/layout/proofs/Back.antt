@@ -43,7 +43,7 @@ small-period : (a : SlotType) → wellFormed a ≡ true → a .t < 65536
 small-period a e = omega (arith, bounds a e)
 
 -- a kind's byte is at most 2
-kind-small : (k : NodeKind) → kindByte k ≤ 2
+pub kind-small : (k : NodeKind) → kindByte k ≤ 2
 unfolding kindByte
 kind-small AlignedLeaf = omega arith
 kind-small SlidingLeaf = omega arith

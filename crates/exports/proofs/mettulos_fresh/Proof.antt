@@ -1,7 +1,7 @@
 -- `exports::mettulos_fresh` meets its contract: one law a return. Assumes nothing.
 use borrow.Author.Needs.{needs}
 use borrow.Author.Tests.{not-true, not-false}
-use Rattle.exports.proofs.Given.{whole-plan, whole-state, fresh-misfit, fresh-laid}
+use Rattle.exports.proofs.Giving.{fresh-misfit, fresh-laid}
 use Rattle.exports.proofs.mettulos_fresh.Statement.{statement}
 use Rattle.exports.proofs.mettulos_fresh.Tie as tie
 
@@ -17,11 +17,14 @@ same-length c = search needs
 returns : tie.Need-returns
 returns c = search (fresh-misfit, not-true)
 
-start-requires : tie.Need-start-requires
-start-requires c κs = search (whole-plan, not-false)
+plan-of-requires : tie.Need-plan-of-requires
+plan-of-requires c κs = search needs
+
+fresh-requires : tie.Need-fresh-requires
+fresh-requires c κs = search needs
 
 put-state-requires : tie.Need-put-state-requires
-put-state-requires c κs = search (whole-state, not-false)
+put-state-requires c κs = search needs
 
 of-outcome-requires : tie.Need-of-outcome-requires
 of-outcome-requires c κs = search needs
@@ -40,7 +43,8 @@ mettulos-fresh-spec =
     refusal-requires
     same-length
     returns
-    start-requires
+    plan-of-requires
+    fresh-requires
     put-state-requires
     of-outcome-requires
     same-length-2

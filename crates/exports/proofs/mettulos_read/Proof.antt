@@ -1,6 +1,6 @@
 -- `exports::mettulos_read` meets its contract: one law a return. Assumes nothing.
 use borrow.Author.Needs.{needs}
-use Rattle.exports.proofs.Told.{read-misfit, read-laid, cores-small, size-small}
+use Rattle.exports.proofs.Told.{read-misfit, read-laid}
 use Rattle.exports.proofs.mettulos_read.Statement.{statement}
 use Rattle.exports.proofs.mettulos_read.Tie as tie
 
@@ -14,7 +14,7 @@ read-requires : tie.Need-read-requires
 read-requires c κs = search needs
 
 put-plan-requires : tie.Need-put-plan-requires
-put-plan-requires c κs = search (needs, cores-small, size-small)
+put-plan-requires c κs = search needs
 
 of-answer-requires : tie.Need-of-answer-requires
 of-answer-requires c κs = search needs

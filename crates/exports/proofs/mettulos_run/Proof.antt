@@ -1,7 +1,7 @@
 -- `exports::mettulos_run` meets its contract: one law a return. Assumes nothing.
 use borrow.Author.Needs.{needs}
 use borrow.Author.Tests.{not-true, not-false}
-use Rattle.exports.proofs.Given.{whole-plan, whole-state, run-misfit, run-told}
+use Rattle.exports.proofs.Giving.{whole-state, run-misfit, run-told}
 use Rattle.exports.proofs.mettulos_run.Statement.{statement}
 use Rattle.exports.proofs.mettulos_run.Tie as tie
 
@@ -18,7 +18,7 @@ returns : tie.Need-returns
 returns c = search (run-misfit, not-true)
 
 run-requires : tie.Need-run-requires
-run-requires c κs = search (whole-plan, whole-state, not-false)
+run-requires c κs = search needs
 
 keep-requires : tie.Need-keep-requires
 keep-requires c κs = search (whole-state, not-false)

@@ -1,7 +1,7 @@
 -- `exports::mettulos_step` meets its contract: one law a return. Assumes nothing.
 use borrow.Author.Needs.{needs}
 use borrow.Author.Tests.{not-true, not-false}
-use Rattle.exports.proofs.Given.{whole-plan, whole-state, step-misfit, grants-misfit, step-told}
+use Rattle.exports.proofs.Giving.{whole-state, step-misfit, grants-misfit, step-told}
 use Rattle.exports.proofs.mettulos_step.Statement.{statement}
 use Rattle.exports.proofs.mettulos_step.Tie as tie
 
@@ -27,7 +27,7 @@ returns-2 : tie.Need-returns-2
 returns-2 c = search (grants-misfit, not-false)
 
 step-requires : tie.Need-step-requires
-step-requires c κs = search (whole-plan, whole-state, not-false)
+step-requires c κs = search needs
 
 put-grants-requires : tie.Need-put-grants-requires
 put-grants-requires c κs = search needs

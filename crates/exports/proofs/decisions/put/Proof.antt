@@ -1,6 +1,6 @@
 -- `exports::decisions::put` meets its contract: four stores take up the whole slice. Assumes nothing.
 use borrow.Author.Needs.{needs}
-use Rattle.exports.proofs.Stored.{four-stored}
+use Rattle.exports.proofs.Refusing.{four-stored}
 use Rattle.exports.proofs.decisions.put.Statement.{statement}
 use Rattle.exports.proofs.decisions.put.Tie as tie
 

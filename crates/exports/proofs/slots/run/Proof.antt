@@ -1,24 +1,18 @@
 -- `exports::slots::run` meets its contract: one law a return and a buffer. Assumes nothing.
 use borrow.Author.Needs.{needs}
 use borrow.Author.Tests.{not-true, not-false}
-use Rattle.exports.proofs.Given.{fit-plan, fit-state, run-unfit, room-unfit, run-given, room-given}
+use Rattle.exports.proofs.Giving.{run-unfit, room-unfit, run-given, room-given}
 use Rattle.exports.proofs.slots.run.Statement.{statement}
 use Rattle.exports.proofs.slots.run.Tie as tie
 
-are-fit-requires : tie.Need-are-fit-requires
-are-fit-requires c κs = search needs
-
-no-state-requires : tie.Need-no-state-requires
-no-state-requires c κs = search needs
+state-of-requires : tie.Need-state-of-requires
+state-of-requires c κs = search needs
 
 returns : tie.Need-returns
 returns c = (search (run-unfit, not-true), search (room-unfit, not-true))
 
 plan-of-requires : tie.Need-plan-of-requires
-plan-of-requires c κs = search (fit-plan, not-false)
-
-state-of-requires : tie.Need-state-of-requires
-state-of-requires c κs = search (fit-state, not-false)
+plan-of-requires c κs = search needs
 
 run-requires : tie.Need-run-requires
 run-requires c κs = search needs
@@ -32,12 +26,4 @@ returns-2 c = (search (run-given, not-false), search (room-given, not-false))
 pub run-spec : {M : Type 1} → statement M
 run-spec =
     tie.close
-    (tie.spec
-    are-fit-requires
-    no-state-requires
-    returns
-    plan-of-requires
-    state-of-requires
-    run-requires
-    same-length
-    returns-2)
+    (tie.spec state-of-requires returns plan-of-requires run-requires same-length returns-2)

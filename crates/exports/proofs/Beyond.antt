@@ -1,0 +1,69 @@
+-- Numbers beyond their field are refused by 16: what specs/Promises.antt says of fresh starts, steps and runs. Assumes nothing.
+use Prim.Native.Nat.{ℕ}
+use mathlib.Core.Bool.{Bool, true, false, cond, _&&_}
+use mathlib.Core.List.{List}
+use mathlib.Core.Path.{_≡_, refl}
+use lib.ListN.{length}
+use borrow.Author.Tests.{eq-eqb}
+use Rattle.answers.specs.Answers.{accepts}
+use Rattle.plans.specs.Plan.{zeroPlan}
+use Rattle.plans.specs.Sound.{counts, sound}
+use Rattle.rules.specs.Check.{checked, fits}
+use Rattle.dispatch.specs.Run.{started, ready, outcome, ran, stepped}
+use Rattle.dispatch.specs.declared.State.{State}
+use Rattle.dispatch.specs.declared.Outcome.the-variants.{Unfit}
+use Rattle.numbers.specs.Numbers.{planOfNumbers, isPlan, stateOfNumbers, isState}
+use Rattle.exports.specs.Exports.{unfitStepped, unfitRan, steppedBy, ranBy, freshening, stepping, running}
+use Rattle.exports.specs.Promises.{BeyondFresh, BeyondStep, BeyondRun}
+
+-- the plan value of zeros is not fit
+zero-unfit : fits zeroPlan ≡ false
+unfolding fits checked sound counts accepts zeroPlan
+zero-unfit = refl
+
+-- nor is that of numbers that are no plan value's
+module _ (plan : List ℕ) (h : isPlan plan ≡ false) where
+  beyond-unfit : fits (planOfNumbers plan) ≡ false
+  unfolding planOfNumbers
+  beyond-unfit = rw h zero-unfit
+
+  beyond-outcome : (s : State) (k declines room : ℕ) → outcome (planOfNumbers plan) s k declines room ≡ Unfit
+  unfolding outcome ready
+  beyond-outcome s k declines room = rw beyond-unfit
+
+-- so that a fresh start is refused by 16
+pub beyond-fresh : BeyondFresh
+unfolding freshening started
+beyond-fresh plan lent whole h = rw (whole, beyond-unfit plan h)
+
+-- a step and a run of values one of which is none
+module _ (plan state : List ℕ) where
+  unfit-step : (supplied declines : ℕ) → (isPlan plan && isState state) ≡ false → steppedBy plan state supplied declines .outcome ≡ Unfit
+  unfolding steppedBy stepped
+  unfit-step supplied declines = go (isPlan plan) (isState state) refl
+    where
+      go : (a b : Bool) → isPlan plan ≡ a → (a && b) ≡ false →
+          cond b (stepped (planOfNumbers plan) (stateOfNumbers state) supplied declines) unfitStepped .outcome ≡ Unfit
+      go a false e h = refl
+      go false true e h = beyond-outcome plan e _ _ _ _
+      go true true e h = cc
+
+  unfit-run : (supplies declines : List ℕ) (room : ℕ) → (isPlan plan && isState state) ≡ false → ranBy plan state supplies declines room .outcome ≡ Unfit
+  unfolding ranBy ran
+  unfit-run supplies declines room = go (isPlan plan) (isState state) refl
+    where
+      go : (a b : Bool) → isPlan plan ≡ a → (a && b) ≡ false →
+          cond b (ran (planOfNumbers plan) (stateOfNumbers state) supplies declines room) unfitRan .outcome ≡ Unfit
+      go a false e h = refl
+      go false true e h = beyond-outcome plan e _ _ _ _
+      go true true e h = cc
+
+-- are refused by 16 too
+pub beyond-step : BeyondStep
+unfolding stepping
+beyond-step plan state supplied declines grants whole eight h =
+    rw (whole, eq-eqb (length grants) 8 eight, unfit-step plan state supplied declines h)
+
+pub beyond-run : BeyondRun
+unfolding running
+beyond-run plan state supplies declines out whole h = rw (whole, unfit-run plan state supplies declines (length out) h)

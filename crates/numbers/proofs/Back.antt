@@ -1,0 +1,162 @@
+-- Reading back what was laid out: types, parents and nodes, and where they stand among the numbers of a plan. Assumes nothing.
+use Prim.Native.Nat.{ℕ, _+_, _-_, _*_, _≤_, _<_}
+use mathlib.Core.Bool.{true}
+use mathlib.Core.List.{List, [], _∷_, _++_}
+use mathlib.Core.Path.{_≡_, refl}
+use native.Mathlib.Omega.{arith}
+use lib.ListN.{length, getD}
+use borrow.Author.Tests.{lt-ltb, le-ltb, le-leb}
+use Rattle.meaning.specs.declared.SlotType.{SlotType}
+use Rattle.plans.specs.Plan.{zeroType, zeroNode}
+use Rattle.plans.specs.declared.Parent.{Parent}
+use Rattle.plans.specs.declared.Parent.the-variants.{Supply, Node as Under}
+use Rattle.plans.specs.declared.Node.{Node}
+use Rattle.plans.specs.declared.Plan.{Plan}
+use Rattle.fields.specs.Fields.{byteAt}
+use Rattle.layout.specs.Layout.{kindByte, parentByte, lays}
+use Rattle.layout.proofs.Holds.{Holds, holds-self, holds-left, holds-right, holds-at, lays-part}
+use Rattle.layout.proofs.Numbers.{byte-read, rest-held}
+use Rattle.layout.proofs.Nodes.{kind-named}
+use Rattle.layout.proofs.Back.{kind-small}
+use Rattle.numbers.specs.Numbers.{
+  typeNumbers,
+  nodeNumbers,
+  typePart,
+  nodePart,
+  planNumbers,
+  supplyPlace,
+  nodePlace,
+  parentNumbered,
+  typeFrom,
+  nodeFrom,
+  isType,
+  isNode,
+}
+use Rattle.numbers.specs.Promises.{Nameable, Short}
+use Rattle.numbers.proofs.Laid.{types-length, nodes-length}
+
+-- a number that is held first stands there
+module _ (s : List ℕ) (k : ℕ) where
+  number-read : (b : ℕ) (x : List ℕ) → Holds s k (b ∷ x) → getD s k 0 ≡ b
+  unfolding byteAt
+  number-read b x h = byte-read s k b x h
+
+-- a type
+module _ (s : List ℕ) (k : ℕ) (a : SlotType) (h : Holds s k (typeNumbers a)) where
+  count-read : getD s k 0 ≡ a .c
+  unfolding typeNumbers
+  count-read = number-read s k _ _ h
+
+  period-read : getD s (k + 1) 0 ≡ a .t
+  unfolding typeNumbers
+  period-read = number-read s (k + 1) _ _ (rest-held s k _ _ h)
+
+  -- a type that is held is read back
+  pub type-back : typeFrom s k ≡ a
+  unfolding typeFrom
+  type-back = rw (count-read, period-read)
+
+  -- and its numbers are within their fields
+  pub type-fit : Short a → isType s k ≡ true
+  unfolding isType
+  type-fit small = rw (count-read, period-read, le-leb (a .c) 65535 (omega (arith, small .c)), le-leb (a .t) 65535 (omega (arith, small .t)))
+
+-- a parent
+pub parent-back : (x : Parent) → Nameable x → parentNumbered (parentByte x) ≡ x
+unfolding parentNumbered parentByte
+parent-back (Supply s) h = rw (lt-ltb s 128 h)
+parent-back (Under n) h = let same : 128 + n - 128 ≡ n = omega arith in rw (le-ltb (128 + n) 128 (omega arith), same)
+
+parent-small : (x : Parent) → Nameable x → parentByte x ≤ 255
+unfolding parentByte
+parent-small (Supply s) h = omega arith
+parent-small (Under n) h = omega arith
+
+-- a node
+module _ (s : List ℕ) (k : ℕ) (n : Node) (h : Holds s k (nodeNumbers n)) where
+  kind-read : getD s k 0 ≡ kindByte (n .kind)
+  unfolding nodeNumbers
+  kind-read = number-read s k _ _ h
+
+  parent-read : getD s (k + 1) 0 ≡ parentByte (n .parent)
+  unfolding nodeNumbers
+  parent-read = number-read s (k + 1) _ _ (rest-held s k _ _ h)
+
+  types-held : Holds s (k + 2) (typeNumbers (n .wanted) ++ typeNumbers (n .served))
+  unfolding nodeNumbers
+  types-held = holds-at s (k + 1 + 1) (k + 2) _ (omega arith) (rest-held s (k + 1) _ _ (rest-held s k _ _ h))
+
+  wanted-held : Holds s (k + 2) (typeNumbers (n .wanted))
+  wanted-held = holds-left s (k + 2) (typeNumbers (n .wanted)) (typeNumbers (n .served)) types-held
+
+  served-held : Holds s (k + 4) (typeNumbers (n .served))
+  unfolding typeNumbers
+  served-held =
+      holds-at s (k + 2 + 2) (k + 4) _ (omega arith) (holds-right s (k + 2) (typeNumbers (n .wanted)) (typeNumbers (n .served)) types-held)
+
+  -- a node that is held, whose parent can be named, is read back
+  pub node-back : Nameable (n .parent) → nodeFrom s k ≡ n
+  unfolding nodeFrom
+  node-back named =
+      rw (
+        kind-read,
+        kind-named (n .kind),
+        parent-read,
+        parent-back (n .parent) named,
+        type-back s (k + 2) (n .wanted) wanted-held,
+        type-back s (k + 4) (n .served) served-held,
+      )
+
+  -- and its numbers are within their fields
+  pub node-fit : Nameable (n .parent) → Short (n .wanted) → Short (n .served) → isNode s k ≡ true
+  unfolding isNode
+  node-fit named wanted served =
+      rw (
+        kind-read,
+        parent-read,
+        le-leb (kindByte (n .kind)) 2 (kind-small (n .kind)),
+        le-leb (parentByte (n .parent)) 255 (parent-small (n .parent) named),
+        type-fit s (k + 2) (n .wanted) wanted-held wanted,
+        type-fit s (k + 4) (n .served) served-held served,
+      )
+
+-- the parts of a plan among its numbers
+module _ (plan : Plan) where
+  after-head : Holds (planNumbers plan) 3 (lays (typePart (plan .supplies)) 8 ++ ((plan .size ∷ []) ++ lays (nodePart (plan .nodes)) 64))
+  unfolding planNumbers
+  after-head = holds-right _ 0 (plan .tick .p ∷ plan .tick .q ∷ plan .cores ∷ []) _ (holds-self _)
+
+  after-supplies : Holds (planNumbers plan) 19 ((plan .size ∷ []) ++ lays (nodePart (plan .nodes)) 64)
+  after-supplies =
+      holds-at _ (3 + length (lays (typePart (plan .supplies)) 8)) 19 _ (omega (arith, types-length (plan .supplies) 8))
+      (holds-right _ 3 (lays (typePart (plan .supplies)) 8) _ after-head)
+
+  -- P, Q and the counts stand at their places
+  pub p-read : getD (planNumbers plan) 0 0 ≡ plan .tick .p
+  unfolding planNumbers
+  p-read = refl
+
+  pub q-read : getD (planNumbers plan) 1 0 ≡ plan .tick .q
+  unfolding planNumbers
+  q-read = refl
+
+  pub cores-read : getD (planNumbers plan) 2 0 ≡ plan .cores
+  unfolding planNumbers
+  cores-read = refl
+
+  pub size-read : getD (planNumbers plan) 19 0 ≡ plan .size
+  size-read = number-read (planNumbers plan) 19 _ _ after-supplies
+
+  -- supply i is held at its place
+  pub supply-held : (i : ℕ) → i < 8 → Holds (planNumbers plan) (supplyPlace i) (typeNumbers (getD (plan .supplies) i zeroType))
+  unfolding typePart supplyPlace
+  supply-held i l =
+      holds-at _ (3 + length (lays (typePart (plan .supplies)) i)) (3 + 2 * i) _ (omega (arith, types-length (plan .supplies) i))
+      (lays-part (typePart (plan .supplies)) _ 3 8 i l (holds-left _ 3 (lays (typePart (plan .supplies)) 8) _ after-head))
+
+  -- and so is node i
+  pub node-held : (i : ℕ) → i < 64 → Holds (planNumbers plan) (nodePlace i) (nodeNumbers (getD (plan .nodes) i zeroNode))
+  unfolding nodePart nodePlace
+  node-held i l =
+      holds-at _ (20 + length (lays (nodePart (plan .nodes)) i)) (20 + 6 * i) _ (omega (arith, nodes-length (plan .nodes) i))
+      (lays-part (nodePart (plan .nodes)) _ 20 64 i l (holds-right _ 19 (plan .size ∷ []) _ after-supplies))

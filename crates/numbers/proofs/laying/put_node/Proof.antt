@@ -1,0 +1,64 @@
+-- `numbers::laying::put_node` meets its contract: a node is two stores and two types. Assumes nothing.
+use borrow.Author.Needs.{needs}
+use native.Mathlib.Omega.{arith}
+use lib.ListN.{length-set}
+use Rattle.numbers.proofs.Laid.{node-laid, node-length}
+use Rattle.numbers.proofs.laying.put_node.Statement.{statement}
+use Rattle.numbers.proofs.laying.put_node.Tie as tie
+
+kind-number-requires : tie.Need-kind-number-requires
+kind-number-requires c κs = search needs
+
+mul-out : tie.Need-mul-out
+mul-out c = search needs
+
+slice-write-out : tie.Need-slice-write-out
+slice-write-out c = search needs
+
+parent-number-requires : tie.Need-parent-number-requires
+parent-number-requires c κs = search needs
+
+add-out : tie.Need-add-out
+add-out c = search needs
+
+mul-out-2 : tie.Need-mul-out-2
+mul-out-2 c = search needs
+
+slice-write-out-2 : tie.Need-slice-write-out-2
+slice-write-out-2 c = simp length-set (omega arith)
+
+add-put-type : tie.Need-add-put-type
+add-put-type c = search needs
+
+put-type-requires : tie.Need-put-type-requires
+put-type-requires c κs = simp length-set (omega arith)
+
+add-put-type-2 : tie.Need-add-put-type-2
+add-put-type-2 c = search needs
+
+put-type-requires-2 : tie.Need-put-type-requires-2
+put-type-requires-2 c κs = omega (arith, simp length-set at (c .before .before .before .put-type .kept .1 .1 .0))
+
+same-length : tie.Need-same-length
+same-length c = search node-length
+
+returns : tie.Need-returns
+returns c = search node-laid
+
+pub put-node-spec : {M : Type 1} → statement M
+put-node-spec =
+    tie.close
+    (tie.spec
+    kind-number-requires
+    mul-out
+    slice-write-out
+    parent-number-requires
+    add-out
+    mul-out-2
+    slice-write-out-2
+    add-put-type
+    put-type-requires
+    add-put-type-2
+    put-type-requires-2
+    same-length
+    returns)

@@ -1,7 +1,6 @@
 // The program of document 01: it reads a plan on standard input and prints its listing. The text is `listing::list`'s, which is proved to be the one
 // that crates/listing/specs/Text.antt defines; no contract can say what is read and written here.
-// The first 4,096 bytes are read. The longest plan has 2,796, and what is refused in a longer file stands in its first 2,797 bytes: the fields that a
-// plan's counts ask for end there, and the first byte left over is the next one. So what follows changes nothing.
+// The first 4,096 bytes are read: what stands beyond byte 2,797 changes nothing (`LongerListed` of crates/listing).
 use listing::Listed;
 
 fn main() {

@@ -1,5 +1,5 @@
 -- What specs/Promises.antt says of plan files holds. Assumes nothing.
-use Prim.Native.Nat.{ℕ, zero, suc, _+_, _*_, _≤_, _<_}
+use Prim.Native.Nat.{ℕ, _<_}
 use mathlib.Core.Bool.{true}
 use mathlib.Core.List.{List, []}
 use mathlib.Core.Logic.{_↔_, _⊎_, inl, inr}
@@ -18,12 +18,12 @@ use Rattle.rules.specs.Fit.{Fit}
 use Rattle.rules.specs.Broken.{Breach, FirstBroken, number, place}
 use Rattle.rules.specs.Check.{rules, checked, fits}
 use Rattle.rules.proofs.Kept.{fits-exactly, first-exactly}
-use Rattle.decode.specs.Positions.{supplyStart, nodesAt, sizeOf, nodeStart, namesAt, nameStart, endAt}
+use Rattle.decode.specs.Positions.{sizeOf}
 use Rattle.decode.specs.Decode.{planOf}
 use Rattle.reader.specs.Read.{checkBytes, readAnswer, readPlan, nameOf}
-use Rattle.reader.proofs.Accepts.{BytesKept, bytes-kept}
-use Rattle.reader.proofs.Spelled.{eight-cores, sixty-four-nodes, spelled-sound, accepted-plan, accepted-fits}
-use Rattle.layout.specs.Promises.{Bytes, FileOf, AcceptsExactly, RefusesByRules, OneReading, NamesPlaced, LongestPlan}
+use Rattle.reader.proofs.Accepts.{bytes-kept}
+use Rattle.reader.proofs.Spelled.{spelled-sound, accepted-plan, accepted-fits}
+use Rattle.layout.specs.Promises.{Bytes, FileOf, AcceptsExactly, RefusesByRules, OneReading, NamesPlaced}
 use Rattle.layout.proofs.Names.{nameIn, namesOf, names-at}
 use Rattle.layout.proofs.Out.{spelled-file}
 use Rattle.layout.proofs.Back.{plan-read, names-read, file-kept}
@@ -48,19 +48,6 @@ one-reading s a b m n small file-a sound-a file-b sound-b = (
   sym (plan-read s a m file-a sound-a) ∙ plan-read s b n file-b sound-b,
   sym (names-read s a m file-a) ∙ names-read s b n file-b,
 )
-
--- a name takes at most 33 bytes
-name-starts : (s : List ℕ) → BytesKept s → (i : ℕ) → i ≤ sizeOf s → nameStart s i ≤ namesAt s + 1 + 33 * i
-unfolding nameStart
-name-starts s h zero l = omega arith
-name-starts s h (suc i) l = omega (arith, name-starts s h i (omega arith), h .names i l .short)
-
--- so the longest plan has 2,796
-pub longest-plan : LongestPlan
-unfolding readPlan readAnswer endAt namesAt nodeStart nodesAt supplyStart
-longest-plan s small e =
-    let kept = bytes-kept s .0 (first-accepted-left (checkBytes s) (rules (planOf s)) e) in
-    omega (arith, kept .ends, name-starts s kept (sizeOf s) (omega arith), eight-cores s kept, sixty-four-nodes s kept)
 
 -- an accepted read is told by its answer and its plan value
 accepted-read : (s : List ℕ) → readAnswer s ≡ Accepted → readPlan s ≡ record { answer = Accepted; plan = planOf s }

@@ -6,4 +6,6 @@ pub mod Laid
 pub mod Out
 pub mod Back
 pub mod Refusals
+pub mod Reach
+pub mod Longer
 pub mod Kept

@@ -4,7 +4,7 @@ use Prim.Native.Nat.{ℕ, _≤_, _<_}
 use mathlib.Core.List.{List, []}
 use mathlib.Core.Logic.{_↔_}
 use mathlib.Core.Path.{_≡_}
-use lib.ListN.{length, getD}
+use lib.ListN.{length, getD, take}
 use Rattle.answers.specs.declared.Answer.{Answer}
 use Rattle.answers.specs.declared.Answer.the-variants.{Accepted, Refused}
 use Rattle.plans.specs.Plan.{Tidy}
@@ -54,4 +54,8 @@ NamesPlaced =
 
 -- 01: "The longest plan has 2,796 bytes"
 abbrev pub LongestPlan : Type 0
-LongestPlan = (s : List ℕ) → Bytes s → readPlan s .answer ≡ Accepted → length s ≤ 2796
+LongestPlan = (s : List ℕ) → readPlan s .answer ≡ Accepted → length s ≤ 2796
+
+-- A longer file is answered by its first part: what stands beyond byte 2,797 changes nothing.
+abbrev pub LongerAlike : Type 0
+LongerAlike = (s : List ℕ) (n : ℕ) → 2797 ≤ n → readPlan (take n s) ≡ readPlan s

@@ -1,14 +1,22 @@
 -- What specs/Promises.antt says of a listing holds. Assumes nothing.
 use Prim.Native.Nat.{ℕ, zero, suc, _≤_}
-use mathlib.Core.Path.{_≡_, refl, ap}
+use mathlib.Core.List.{List}
+use mathlib.Core.Path.{_≡_, refl, sym, ap, _∙_}
 use native.Mathlib.Omega.{arith}
+use lib.ListN.{take}
+use lib.Seq.{take-all}
+use Rattle.answers.specs.declared.Answer.{Answer}
+use Rattle.answers.specs.declared.Answer.the-variants.{Accepted, Refused}
 use Rattle.plans.proofs.Depth.{depth-positive}
 use Rattle.plans.proofs.Parents.{node-depth}
 use Rattle.plans.specs.Sound.{Depth, top, under}
 use Rattle.plans.specs.declared.Plan.{Plan}
+use Rattle.reader.specs.Read.{readPlan}
+use Rattle.layout.proofs.Reach.{longest-plan}
+use Rattle.layout.proofs.Longer.{longer-alike}
 use Rattle.listing.proofs.Texts.{text-most}
-use Rattle.listing.specs.Promises.{Suffices, DepthPrinted, OneListing}
-use Rattle.listing.specs.Text.{above, depthTo, depthOf}
+use Rattle.listing.specs.Promises.{Suffices, DepthPrinted, OneListing, LongerListed}
+use Rattle.listing.specs.Text.{above, depthTo, depthOf, refusedText, text}
 use Rattle.listing.specs.declared.Listed.the-variants.{Written, Short}
 
 -- 3,708 bytes always suffice
@@ -35,3 +43,16 @@ one-listing (Written n) (Written m) e = cc
 one-listing (Written n) Short e = cc
 one-listing Short (Written m) e = cc
 one-listing Short Short e = refl
+
+-- a refused plan is listed by its refusal alone
+refused-text : (s : List ℕ) (r k : ℕ) → readPlan s .answer ≡ Refused r k → text s ≡ refusedText r k
+unfolding text
+refused-text s r k e = rw e
+
+-- what stands beyond byte 2,797 changes nothing: an accepted plan ends before it, and a refused one is answered alike
+pub longer-listed : LongerListed
+longer-listed s n l = go (readPlan s .answer) refl
+  where
+    go : (a : Answer) → readPlan s .answer ≡ a → text (take n s) ≡ text s
+    go Accepted e = ap text (take-all n s (omega (arith, longest-plan s e)))
+    go (Refused r k) e = refused-text (take n s) r k (ap (λ x. x .answer) (longer-alike s n l) ∙ e) ∙ sym (refused-text s r k e)

@@ -2,7 +2,7 @@
 use Prim.Native.Nat.{ℕ, _≤_, _<_}
 use mathlib.Core.List.{List}
 use mathlib.Core.Path.{_≡_}
-use lib.ListN.{length}
+use lib.ListN.{length, take}
 use Rattle.plans.specs.Sound.{Sound, Depth}
 use Rattle.plans.specs.declared.Plan.{Plan}
 use Rattle.layout.specs.Promises.{Bytes}
@@ -20,3 +20,7 @@ DepthPrinted = (plan : Plan) → Sound plan → (i : ℕ) → i < plan .size →
 -- two answers that say the same are the same
 abbrev pub OneListing : Type 0
 OneListing = (a b : Listed) → said a ≡ said b → a ≡ b
+
+-- A longer file is listed as its first part is: what stands beyond byte 2,797 changes nothing.
+abbrev pub LongerListed : Type 0
+LongerListed = (s : List ℕ) (n : ℕ) → 2797 ≤ n → text (take n s) ≡ text s

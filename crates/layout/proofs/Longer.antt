@@ -1,0 +1,304 @@
+-- A file of 2,797 bytes or more is answered by its first 2,797: no check looks further, once those before it have accepted. Assumes nothing.
+use Prim.Native.Nat.{ℕ, zero, suc, _+_, _*_, _≤_, _<_, min}
+use mathlib.Core.Bool.{Bool}
+use mathlib.Core.List.{List}
+use mathlib.Core.Path.{_≡_, refl, sym, ap, _∙_}
+use native.Mathlib.Decide.{decLe}
+use native.Mathlib.Omega.{arith}
+use lib.ListN.{length, take, replicate}
+use lib.Seq.{getD-take, take-all, length-take-le}
+use borrow.Author.Tests.{le-leb, lt-leb}
+use Rattle.answers.specs.Answers.{first, test, each}
+use Rattle.answers.specs.declared.Answer.{Answer}
+use Rattle.answers.specs.declared.Answer.the-variants.{Accepted, Refused}
+use Rattle.answers.proofs.Laws.{first-accepted-left, first-accepted-right, each-accepted, each-accepted-at, each-ext}
+use Rattle.plans.specs.Plan.{zeroType, zeroNode}
+use Rattle.plans.specs.Sound.{all}
+use Rattle.fields.specs.Fields.{byteAt, twoAt, fourAt, typeAt, there, checkType}
+use Rattle.decode.specs.Positions.{coresOf, supplyStart, nodesAt, sizeOf, nodeStart, namesAt, nameStart, endAt}
+use Rattle.decode.specs.Decode.{supplyOf, nodeOf, filled, planOf}
+use Rattle.names.specs.Names.{letterAt, checkLetter, agreesAt, sameName, differs, isNew, checkName, checkNames}
+use Rattle.reader.specs.Read.{checkPart, checkTick, checkCount, checkSupply, checkSupplies, checkKind, checkParent, checkNode, checkNodes, checkEnd, checkBytes, readAnswer, readPlan}
+use Rattle.reader.proofs.Accepts.{name-kept}
+use Rattle.reader.proofs.Spelled.{refused-plan}
+use Rattle.layout.specs.Promises.{LongerAlike}
+use Rattle.layout.proofs.Reach.{few-letters, few-cores, few-nodes, nodes-most, names-most, start-most, bytes-short, longest-plan}
+
+-- answers join alike where the first ones are the same, and so are the second ones wherever the first is accepted
+first-alike : {a c b d : Answer} → a ≡ c → (a ≡ Accepted → b ≡ d) → first a b ≡ first c d
+unfolding first
+first-alike {a} {c} {b} {d} e h = go a h ∙ ap (λ x. first x d) e
+  where
+    go : (x : Answer) → (x ≡ Accepted → b ≡ d) → first x b ≡ first x d
+    go Accepted k = k refl
+    go (Refused n k) l = refl
+
+-- the first refusal is the same where each answer is, once those before it are accepted
+each-alike : (f g : ℕ → Answer) (n : ℕ) → ((i : ℕ) → i < n → each f i ≡ Accepted → f i ≡ g i) → each f n ≡ each g n
+unfolding each
+each-alike f g zero h = refl
+each-alike f g (suc n) h = first-alike (each-alike f g n (λ i l e. h i (omega arith) e)) (h n (omega arith))
+
+-- tests that agree below n hold of all alike,
+all-alike : (f g : ℕ → Bool) (n : ℕ) → ((i : ℕ) → i < n → f i ≡ g i) → all f n ≡ all g n
+unfolding all
+all-alike f g zero h = refl
+all-alike f g (suc n) h = rw (all-alike f g n (λ i l. h i (omega arith)), h n (omega arith))
+
+-- and entries that agree fill a list alike
+filled-alike : {A : Type 0} (f g : ℕ → A) (xs : List A) (n : ℕ) → ((i : ℕ) → i < n → f i ≡ g i) → filled f xs n ≡ filled g xs n
+unfolding filled
+filled-alike f g xs zero h = refl
+filled-alike f g xs (suc n) h = rw (filled-alike f g xs n (λ i l. h i (omega arith)), h n (omega arith))
+
+-- two files that agree in their first 2,797 bytes
+record Alike (s r : List ℕ) : Type 0 where
+  pub bytes : (k : ℕ) → k < 2797 → byteAt s k ≡ byteAt r k
+  pub left : 2797 ≤ length s
+  pub right : 2797 ≤ length r
+
+module _ (s r : List ℕ) (h : Alike s r) where
+  -- a field among them is there in both,
+  there-alike : (k n : ℕ) → k + n ≤ 2797 → there s k n ≡ there r k n
+  unfolding there
+  there-alike k n l = rw (le-leb (k + n) (length s) (omega (arith, h .left)), le-leb (k + n) (length r) (omega (arith, h .right)))
+
+  -- and reads the same: a number of two bytes,
+  two-alike : (k : ℕ) → k + 2 ≤ 2797 → twoAt s k ≡ twoAt r k
+  unfolding twoAt
+  two-alike k l = rw (h .bytes k (omega arith), h .bytes (k + 1) (omega arith))
+
+  -- of four,
+  four-alike : (k : ℕ) → k + 4 ≤ 2797 → fourAt s k ≡ fourAt r k
+  unfolding fourAt
+  four-alike k l = rw (two-alike k (omega arith), two-alike (k + 2) (omega arith))
+
+  -- and a type
+  type-alike : (k : ℕ) → k + 4 ≤ 2797 → typeAt s k ≡ typeAt r k
+  unfolding typeAt
+  type-alike k l = rw (two-alike k (omega arith), two-alike (k + 2) (omega arith))
+
+  -- So it is checked alike: a type,
+  type-checked : (k : ℕ) → k + 4 ≤ 2797 → checkType s k ≡ checkType r k
+  unfolding checkType
+  type-checked k l = rw (there-alike k 2 (omega arith), there-alike (k + 2) 2 (omega arith), type-alike k l)
+
+  -- the tick,
+  tick-checked : checkTick s ≡ checkTick r
+  unfolding checkTick checkPart
+  tick-checked =
+      rw (
+        there-alike 0 1 (omega arith),
+        h .bytes 0 (omega arith),
+        there-alike 1 4 (omega arith),
+        four-alike 1 (omega arith),
+        there-alike 5 4 (omega arith),
+        four-alike 5 (omega arith),
+      )
+
+  -- and a count.
+  count-checked : (k most : ℕ) → k < 2797 → checkCount s k most ≡ checkCount r k most
+  unfolding checkCount
+  count-checked k most l = rw (there-alike k 1 (omega arith), h .bytes k l)
+
+  -- There are as many supplies,
+  cores-alike : coresOf s ≡ coresOf r
+  unfolding coresOf
+  cores-alike = h .bytes 9 (omega arith)
+
+  -- and they are checked alike.
+  supplies-checked : checkSupplies s ≡ checkSupplies r
+  unfolding checkSupplies checkSupply supplyStart
+  supplies-checked =
+      rw (← cores-alike)
+      (first-alike (count-checked 9 8 (omega arith))
+      (λ e. each-ext (checkSupply s) (checkSupply r) (coresOf s) (λ i l. type-checked (supplyStart i) (omega (arith, few-cores s e)))))
+
+  module _ (cores : coresOf s ≤ 8) where
+    -- The nodes stand at the same place,
+    nodes-alike : nodesAt s ≡ nodesAt r
+    unfolding nodesAt
+    nodes-alike = ap supplyStart cores-alike
+
+    -- there are as many,
+    size-alike : sizeOf s ≡ sizeOf r
+    unfolding sizeOf
+    size-alike = h .bytes (nodesAt s) (omega (arith, nodes-most s cores)) ∙ ap (byteAt r) nodes-alike
+
+    -- each reads the same,
+    node-alike : (i : ℕ) → i < 64 → nodeOf s i ≡ nodeOf r i
+    unfolding nodeOf nodeStart
+    node-alike i l =
+        let k = nodesAt s + 1 + 10 * i in
+        let far : k + 10 ≤ 2797 = omega (arith, nodes-most s cores) in
+        rw (
+          ← nodes-alike,
+          h .bytes k (omega arith),
+          h .bytes (k + 1) (omega arith),
+          type-alike (k + 2) (omega arith),
+          type-alike (k + 6) (omega arith),
+        )
+
+    -- and so does the whole plan value,
+    plan-alike : planOf s ≡ planOf r
+    unfolding planOf supplyOf supplyStart
+    plan-alike =
+        rw (
+          four-alike 1 (omega arith),
+          four-alike 5 (omega arith),
+          filled-alike (supplyOf s) (supplyOf r) (replicate 8 zeroType) (min (coresOf s) 8) (λ i l. type-alike (supplyStart i) (omega arith)),
+          filled-alike (nodeOf s) (nodeOf r) (replicate 64 zeroNode) (min (sizeOf s) 64) (λ i l. node-alike i (omega arith)),
+          cores-alike,
+          size-alike,
+        )
+
+    -- so that a node is checked alike,
+    node-checked : (i : ℕ) → i < 64 → checkNode s i ≡ checkNode r i
+    unfolding checkNode checkKind checkParent nodeStart
+    node-checked i l =
+        let k = nodesAt s + 1 + 10 * i in
+        let far : k + 10 ≤ 2797 = omega (arith, nodes-most s cores) in
+        rw (
+          ← nodes-alike,
+          there-alike k 1 (omega arith),
+          h .bytes k (omega arith),
+          there-alike (k + 1) 1 (omega arith),
+          h .bytes (k + 1) (omega arith),
+          plan-alike,
+          type-checked (k + 2) (omega arith),
+          type-checked (k + 6) (omega arith),
+        )
+
+    -- and so are all.
+    nodes-checked : checkNodes s ≡ checkNodes r
+    unfolding checkNodes
+    nodes-checked =
+        rw (← nodes-alike, ← size-alike)
+        (first-alike (count-checked (nodesAt s) 64 (omega (arith, nodes-most s cores)))
+        (λ e. each-ext (checkNode s) (checkNode r) (sizeOf s) (λ i l. node-checked i (omega (arith, few-nodes s e)))))
+
+    -- A byte of a name is checked alike,
+    letter-checked : (k j : ℕ) → k + 1 + j < 2797 → checkLetter s k j ≡ checkLetter r k j
+    unfolding checkLetter letterAt
+    letter-checked k j l = rw (there-alike (k + 1 + j) 1 (omega arith), h .bytes (k + 1 + j) l)
+
+    -- and two names are the same in both or in neither.
+    same-alike : (a b : ℕ) → a + 33 ≤ 2797 → b + 33 ≤ 2797 → byteAt s a ≤ 32 → sameName s a b ≡ sameName r a b
+    unfolding sameName agreesAt
+    same-alike a b l m short =
+        rw (← h .bytes a (omega arith))
+        (all-alike (agreesAt s a b) (agreesAt r a b) (suc (byteAt s a))
+        (λ j k. rw (h .bytes (a + j) (omega arith), h .bytes (b + j) (omega arith))))
+
+    module _ (size : sizeOf s ≤ 64) where
+      -- The names stand at the same place,
+      names-alike : namesAt s ≡ namesAt r
+      unfolding namesAt nodeStart
+      names-alike = omega (arith, nodes-alike, size-alike)
+
+      -- each begins at the same place, once those before it are accepted,
+      start-alike : (i : ℕ) → i ≤ 64 → each (checkName s) i ≡ Accepted → nameStart s i ≡ nameStart r i
+      unfolding each nameStart
+      start-alike zero l e = rw names-alike
+      start-alike (suc i) l e =
+          let before = first-accepted-left (each (checkName s) i) (checkName s i) e in
+          let at = start-alike i (omega arith) before in
+          omega (arith, h .bytes (nameStart s i) (omega (arith, start-most s cores size i before)), ap (byteAt r) at)
+
+      module _ (i : ℕ) (l : i < 64) (e : each (checkName s) i ≡ Accepted) where
+        -- with room for 32 bytes more,
+        here : nameStart s i + 33 ≤ 2797
+        here = omega (arith, start-most s cores size i e)
+
+        -- it is new in both or in neither,
+        new-alike : isNew s i ≡ isNew r i
+        unfolding isNew differs
+        new-alike =
+            all-alike (differs s i) (differs r i) i
+            (λ j m.
+            let accepted = each-accepted-at (checkName s) i e in
+            let before = each-accepted (checkName s) j (λ k n. accepted k (omega arith)) in
+            let far : nameStart s j + 33 ≤ 2797 = omega (arith, start-most s cores size j before) in
+            rw (
+              ← start-alike j (omega arith) before,
+              ← start-alike i (omega arith) e,
+              same-alike (nameStart s j) (nameStart s i) far here (name-kept s j .0 (accepted j m) .short),
+            ))
+
+        -- so that it is checked alike,
+        name-checked : checkName s i ≡ checkName r i
+        unfolding checkName
+        name-checked =
+            let k = nameStart s i in
+            rw (← start-alike i (omega arith) e, ← h .bytes k (omega (arith, here)), there-alike k 1 (omega (arith, here)), new-alike)
+            (first-alike refl
+            (λ a. first-alike refl
+            (λ b.
+            ap (λ x. first x (test (isNew r i) 9 k))
+            (each-ext (checkLetter s k) (checkLetter r k) (byteAt s k)
+            (λ j m. letter-checked k j (omega (arith, here, few-letters (byteAt s k) k b)))))))
+
+      -- and so are all.
+      names-checked : checkNames s ≡ checkNames r
+      unfolding checkNames
+      names-checked =
+          let far = names-most s cores size in
+          rw (← names-alike, ← size-alike, there-alike (namesAt s) 1 (omega arith), h .bytes (namesAt s) (omega arith))
+          (first-alike refl
+          (λ a. first-alike refl
+          (λ b. each-alike (checkName s) (checkName r) (sizeOf s) (λ i l e. name-checked i (omega arith) e))))
+
+      -- Both have bytes left over, from the same place on.
+      end-checked : each (checkName s) (sizeOf s) ≡ Accepted → checkEnd s ≡ checkEnd r
+      unfolding checkEnd endAt
+      end-checked e =
+          let k = nameStart s (sizeOf s) in
+          let far : k < 2797 = omega (arith, start-most s cores size (sizeOf s) e) in
+          rw (
+            ← size-alike,
+            ← start-alike (sizeOf s) size e,
+            lt-leb (length s) k (omega (arith, h .left)),
+            lt-leb (length r) k (omega (arith, h .right)),
+          )
+
+  -- So the bytes are checked alike,
+  bytes-checked : checkBytes s ≡ checkBytes r
+  unfolding checkBytes checkSupplies checkNodes checkNames
+  bytes-checked =
+      first-alike tick-checked
+      (λ a. first-alike supplies-checked
+      (λ b.
+      let cores = few-cores s (first-accepted-left _ _ b) in
+      first-alike (nodes-checked cores)
+      (λ c.
+      let size = few-nodes s (first-accepted-left _ _ c) in
+      first-alike (names-checked cores size)
+      (λ d. end-checked cores size (first-accepted-right _ _ (first-accepted-right _ _ d))))))
+
+  -- refused alike, since none so long are accepted,
+  answer-alike : readAnswer s ≡ readAnswer r
+  unfolding readAnswer
+  answer-alike = first-alike bytes-checked (λ e. absurd (omega (arith, bytes-short s e, h .left)))
+
+  -- and read alike
+  reading-alike : readPlan s ≡ readPlan r
+  unfolding readPlan
+  reading-alike = go (readAnswer s) refl
+    where
+      go : (a : Answer) → readAnswer s ≡ a → readPlan s ≡ readPlan r
+      go Accepted e = absurd (omega (arith, longest-plan s e, h .left))
+      go (Refused n k) e =
+          λ j.
+          record { answer = answer-alike j; plan = (refused-plan s n k e ∙ sym (refused-plan r n k (sym answer-alike ∙ e))) j }
+
+-- what stands beyond byte 2,797 changes nothing
+pub longer-alike : LongerAlike
+unfolding byteAt
+longer-alike s n l = go (decLe (length s) n)
+  where
+    go : Dec (length s ≤ n) → readPlan (take n s) ≡ readPlan s
+    go (yes m) = ap readPlan (take-all n s m)
+    go (no m) =
+        let long = length-take-le n s (omega arith) in
+        reading-alike (take n s) s
+        (record { bytes = λ k j. getD-take n s k 0 (omega arith); left = omega arith; right = omega arith })

@@ -1,0 +1,69 @@
+-- How far into a file its parts reach, by what has been accepted of it; so the longest plan has 2,796 bytes. Assumes nothing.
+use Prim.Native.Nat.{ℕ, zero, suc, _+_, _*_, _≤_}
+use mathlib.Core.Bool.{and-eq-true-iff}
+use mathlib.Core.List.{List}
+use mathlib.Core.Path.{_≡_}
+use native.Mathlib.Omega.{arith}
+use lib.Dec.{leb}
+use lib.ListN.{length}
+use borrow.Author.Tests.{leb-true}
+use Rattle.answers.specs.Answers.{test, each}
+use Rattle.answers.specs.declared.Answer.the-variants.{Accepted}
+use Rattle.answers.proofs.Laws.{first-accepted-left, first-accepted-right, test-accepted, each-accepted}
+use Rattle.rules.specs.Check.{rules}
+use Rattle.decode.specs.Positions.{coresOf, supplyStart, nodesAt, sizeOf, nodeStart, namesAt, nameStart, endAt}
+use Rattle.decode.specs.Decode.{planOf}
+use Rattle.names.specs.Names.{isLength, checkName}
+use Rattle.reader.specs.Read.{checkCount, checkBytes, readAnswer, readPlan}
+use Rattle.reader.proofs.Accepts.{count-kept, name-kept, bytes-kept}
+use Rattle.reader.proofs.Spelled.{eight-cores, sixty-four-nodes}
+use Rattle.layout.specs.Promises.{LongestPlan}
+
+-- a name's length, where it is accepted, is at most 32
+pub few-letters : (b k : ℕ) → test (isLength b) 8 k ≡ Accepted → b ≤ 32
+unfolding isLength
+few-letters b k e = leb-true b 32 (and-eq-true-iff (leb 1 b) (leb b 32) .0 (test-accepted _ 8 k e) .1)
+
+module _ (s : List ℕ) where
+  -- there are at most 8 supplies,
+  pub few-cores : checkCount s 9 8 ≡ Accepted → coresOf s ≤ 8
+  unfolding coresOf
+  few-cores e = count-kept s 9 8 .0 e .few
+
+  -- and at most 64 nodes,
+  pub few-nodes : checkCount s (nodesAt s) 64 ≡ Accepted → sizeOf s ≤ 64
+  unfolding sizeOf
+  few-nodes e = count-kept s (nodesAt s) 64 .0 e .few
+
+  module _ (cores : coresOf s ≤ 8) where
+    -- so the nodes' count stands at 42 or before,
+    pub nodes-most : nodesAt s ≤ 42
+    unfolding nodesAt supplyStart
+    nodes-most = omega arith
+
+    module _ (size : sizeOf s ≤ 64) where
+      -- the names' count at 683 or before,
+      pub names-most : namesAt s ≤ 683
+      unfolding namesAt nodeStart
+      names-most = omega (arith, nodes-most)
+
+      -- and each name begins at most 33 bytes after the one before it
+      pub start-most : (i : ℕ) → each (checkName s) i ≡ Accepted → nameStart s i ≤ 684 + 33 * i
+      unfolding each nameStart
+      start-most zero e = omega (arith, names-most)
+      start-most (suc i) e =
+          omega (arith, start-most i (first-accepted-left _ _ e), name-kept s i .0 (first-accepted-right _ _ e) .short)
+
+  -- a file that no check of the bytes refuses has at most 2,796,
+  pub bytes-short : checkBytes s ≡ Accepted → length s ≤ 2796
+  unfolding endAt
+  bytes-short e =
+      let kept = bytes-kept s .0 e in
+      let size = sixty-four-nodes s kept in
+      let named = each-accepted (checkName s) (sizeOf s) (λ i l. name-kept s i .1 (kept .names i l)) in
+      omega (arith, kept .ends, start-most (eight-cores s kept) size (sizeOf s) named)
+
+-- and so has one that is accepted
+pub longest-plan : LongestPlan
+unfolding readPlan readAnswer
+longest-plan s e = bytes-short s (first-accepted-left (checkBytes s) (rules (planOf s)) e)

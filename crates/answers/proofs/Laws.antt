@@ -49,7 +49,13 @@ pub accepts-true : (a : Answer) → a ≡ Accepted → true ≡ accepts a
 unfolding accepts
 accepts-true a e = rw e
 
--- and a refusal does not
+-- an answer that accepts is accepted
+pub accepts-accepted : (a : Answer) → accepts a ≡ true → a ≡ Accepted
+unfolding accepts
+accepts-accepted Accepted e = refl
+accepts-accepted (Refused r k) e = cc
+
+-- and a refusal does not accept
 pub accepts-false : (a : Answer) (r k : ℕ) → a ≡ Refused r k → false ≡ accepts a
 unfolding accepts
 accepts-false a r k e = rw e
@@ -85,6 +91,15 @@ pub first-refused : (a b : Answer) (r k : ℕ) → first a b ≡ Refused r k →
 unfolding first
 first-refused Accepted b r k e = inr (refl, e)
 first-refused (Refused r' k') b r k e = inl e
+
+-- answers join alike where the first ones are the same, and so are the second ones wherever the first is accepted
+pub first-alike : {a c b d : Answer} → a ≡ c → (a ≡ Accepted → b ≡ d) → first a b ≡ first c d
+unfolding first
+first-alike {a} {c} {b} {d} e h = go a h ∙ ap (λ x. first x d) e
+  where
+    go : (x : Answer) → (x ≡ Accepted → b ≡ d) → first x b ≡ first x d
+    go Accepted k = k refl
+    go (Refused n k) l = refl
 
 -- a test that goes well is accepted
 pub test-true : (ok : Bool) (r k : ℕ) → ok ≡ true → test ok r k ≡ Accepted
@@ -156,11 +171,15 @@ module _ (f : ℕ → Answer) where
           record { at = found .at; below = omega arith; refused = found .refused; before = found .before }
       go (inr h) earlier = record { at = n; below = omega arith; refused = h .1; before = each-accepted-at f n (h .0) }
 
-  -- answers that agree below n have the same first refusal there
-  pub each-ext : (g : ℕ → Answer) (n : ℕ) → ((i : ℕ) → i < n → f i ≡ g i) → each f n ≡ each g n
+  -- the first refusal is the same where each answer is, once those before it are accepted,
+  pub each-alike : (g : ℕ → Answer) (n : ℕ) → ((i : ℕ) → i < n → each f i ≡ Accepted → f i ≡ g i) → each f n ≡ each g n
   unfolding each
-  each-ext g zero h = refl
-  each-ext g (suc n) h = rw (each-ext g n (λ i l. h i (omega arith)), h n (omega arith))
+  each-alike g zero h = refl
+  each-alike g (suc n) h = first-alike (each-alike g n (λ i l e. h i (omega arith) e)) (h n (omega arith))
+
+  -- and so where answers agree below n, accepted or not
+  pub each-ext : (g : ℕ → Answer) (n : ℕ) → ((i : ℕ) → i < n → f i ≡ g i) → each f n ≡ each g n
+  each-ext g n h = each-alike g n (λ i l e. h i l)
 
 -- a refusal has a number and a place
 refusal : (a : Answer) → Refusal a → (r : ℕ) × (k : ℕ) × (a ≡ Refused r k)

@@ -8,4 +8,5 @@ pub mod Choosing
 pub mod Counting
 pub mod Walking
 pub mod Refusals
+pub mod Copying
 pub mod Running

@@ -1,11 +1,10 @@
--- What the calls that give out a run answer: the laws of the loop that lays a slot's answers down, of the loop over the slots, and one law a
--- return of a run and of a step. Assumes nothing.
+-- What the calls that give out a run answer: the laws of the loop over the slots, and one law a return of a run and of a step. Assumes nothing.
 use Prim.Native.Nat.{ℕ, zero, suc, _+_, _*_, _^_, _≤_, _<_}
 use mathlib.Core.Bool.{true}
 use mathlib.Core.List.{List, [], _∷_, _++_}
 use mathlib.Core.Path.{_≡_, refl, sym, ap, _∙_}
-use lib.ListN.{length, getD, set, take, drop, replicate, length-append, length-drop}
-use lib.Seq.{paste, paste-suc, length-paste, length-take-le, take-at, drop-append-add, drop-drop}
+use lib.ListN.{length, getD, take, drop, replicate, length-append, length-drop}
+use lib.Seq.{paste, length-take-le, take-at, drop-append-add, drop-drop}
 use native.Mathlib.Nat.{le-antisymm, zero-mul, suc-mul, mul-le-mul-left, mul-le-mul-right}
 use native.Mathlib.Numerals.{add-one}
 use native.Mathlib.Omega.{arith}
@@ -24,26 +23,6 @@ use Rattle.dispatch.specs.declared.Outcome.{Outcome}
 use Rattle.dispatch.specs.declared.Outcome.the-variants.{Done, Beyond, Unfit, Misfit}
 use Rattle.dispatch.specs.declared.State.{State}
 use Rattle.dispatch.specs.declared.Served.{Served}
-
--- The loop that lays n of eight grants down at `at` of a buffer d, whose invariant is (i ≤ n) × (out ≡ paste d at grants i).
-module _ (d : List ℕ) (at : ℕ) (grants : List ℕ) (eight : length grants ≡ 8) (n : ℕ) (few : n ≤ 8) (room : at + n ≤ length d)
-    (out : List ℕ) (i : ℕ) (e : out ≡ paste d at grants i) where
-  -- the buffer keeps its length
-  pub put-length : i ≤ n → length out ≡ length d
-  put-length l = ap length e ∙ length-paste d at grants i (omega arith) (omega arith)
-
-  -- there is a place for the next grant
-  pub put-place : i < n → at + i < length out
-  put-place l = omega (arith, put-length (omega arith))
-
-  -- one grant more
-  pub put-more : i < n → set out (at + i) (getD grants i 0) ≡ paste d at grants (i + 1)
-  put-more l = rw (e, add-one i) (paste-suc d at grants i 0 (omega arith) (omega arith))
-
--- past the last of n grants
-pub put-done : (d : List ℕ) (at : ℕ) (grants : List ℕ) (n : ℕ) (out : List ℕ) (i : ℕ) → out ≡ paste d at grants i → i ≤ n → n ≤ i →
-    out ≡ paste d at grants n
-put-done d at grants n out i e l h = e ∙ ap (paste d at grants) (le-antisymm l h)
 
 -- n elements laid down behind the front of a buffer
 paste-behind : (front d part out : List ℕ) (at n : ℕ) → length front ≡ at → out ≡ front ++ drop at d →

@@ -11,8 +11,9 @@ use Rattle.plans.specs.Sound.{counts, sound}
 use Rattle.rules.specs.Check.{checked, fits}
 use Rattle.dispatch.specs.Run.{started, ready, outcome, ran, stepped}
 use Rattle.dispatch.specs.declared.State.{State}
+use Rattle.dispatch.specs.declared.Outcome.{Outcome}
 use Rattle.dispatch.specs.declared.Outcome.the-variants.{Unfit}
-use Rattle.numbers.specs.Numbers.{planOfNumbers, isPlan, stateOfNumbers, isState}
+use Rattle.numbers.specs.Numbers.{planOfNumbers, isPlan, isState}
 use Rattle.exports.specs.Exports.{unfitStepped, unfitRan, steppedBy, ranBy, freshening, stepping, running}
 use Rattle.exports.specs.Promises.{BeyondFresh, BeyondStep, BeyondRun}
 
@@ -36,27 +37,26 @@ pub beyond-fresh : BeyondFresh
 unfolding freshening started
 beyond-fresh plan lent whole h = rw (whole, beyond-unfit plan h)
 
--- a step and a run of values one of which is none
-module _ (plan state : List ℕ) where
-  unfit-step : (supplied declines : ℕ) → (isPlan plan && isState state) ≡ false → steppedBy plan state supplied declines .outcome ≡ Unfit
-  unfolding steppedBy stepped
-  unfit-step supplied declines = go (isPlan plan) (isState state) refl
-    where
-      go : (a b : Bool) → isPlan plan ≡ a → (a && b) ≡ false →
-          cond b (stepped (planOfNumbers plan) (stateOfNumbers state) supplied declines) unfitStepped .outcome ≡ Unfit
-      go a false e h = refl
-      go false true e h = beyond-outcome plan e _ _ _ _
-      go true true e h = cc
+-- what is unfit by itself, and otherwise wherever the plan is none, is unfit where the plan or the state is none
+unfit-by : {A : Type 0} (said : A → Outcome) (plan state : List ℕ) (given none : A) → said none ≡ Unfit → (isPlan plan ≡ false → said given ≡ Unfit) →
+    (isPlan plan && isState state) ≡ false → said (cond (isState state) given none) ≡ Unfit
+unfit-by said plan state given none always beyond = go (isPlan plan) (isState state) refl
+  where
+    go : (a b : Bool) → isPlan plan ≡ a → (a && b) ≡ false → said (cond b given none) ≡ Unfit
+    go a false e h = always
+    go false true e h = beyond e
+    go true true e h = cc
 
-  unfit-run : (supplies declines : List ℕ) (room : ℕ) → (isPlan plan && isState state) ≡ false → ranBy plan state supplies declines room .outcome ≡ Unfit
-  unfolding ranBy ran
-  unfit-run supplies declines room = go (isPlan plan) (isState state) refl
-    where
-      go : (a b : Bool) → isPlan plan ≡ a → (a && b) ≡ false →
-          cond b (ran (planOfNumbers plan) (stateOfNumbers state) supplies declines room) unfitRan .outcome ≡ Unfit
-      go a false e h = refl
-      go false true e h = beyond-outcome plan e _ _ _ _
-      go true true e h = cc
+-- so that a step
+unfit-step : (plan state : List ℕ) (supplied declines : ℕ) → (isPlan plan && isState state) ≡ false → steppedBy plan state supplied declines .outcome ≡ Unfit
+unfolding steppedBy stepped
+unfit-step plan state supplied declines = unfit-by (λ r. r .outcome) plan state _ unfitStepped refl (λ e. beyond-outcome plan e _ _ _ _)
+
+-- and a run of values one of which is none
+unfit-run : (plan state supplies declines : List ℕ) (room : ℕ) → (isPlan plan && isState state) ≡ false →
+    ranBy plan state supplies declines room .outcome ≡ Unfit
+unfolding ranBy ran
+unfit-run plan state supplies declines room = unfit-by (λ r. r .outcome) plan state _ unfitRan refl (λ e. beyond-outcome plan e _ _ _ _)
 
 -- are refused by 16 too
 pub beyond-step : BeyondStep

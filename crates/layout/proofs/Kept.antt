@@ -1,16 +1,14 @@
 -- What specs/Promises.antt says of plan files holds. Assumes nothing.
 use Prim.Native.Nat.{ℕ, _<_}
-use mathlib.Core.Bool.{true}
 use mathlib.Core.List.{List, []}
 use mathlib.Core.Logic.{_↔_, _⊎_, inl, inr}
-use mathlib.Core.Path.{_≡_, refl, sym, ap, subst, _∙_}
+use mathlib.Core.Path.{_≡_, sym, ap, subst, _∙_}
 use native.Mathlib.Omega.{arith}
 use lib.ListN.{getD}
 use borrow.Author.Tests.{lt-ltb}
 use Rattle.answers.specs.Answers.{accepts}
-use Rattle.answers.specs.declared.Answer.{Answer}
 use Rattle.answers.specs.declared.Answer.the-variants.{Accepted, Refused}
-use Rattle.answers.proofs.Laws.{first-accepted, first-accepted-left, first-second, first-refused, accepts-true}
+use Rattle.answers.proofs.Laws.{first-accepted, first-accepted-left, first-second, first-refused, accepts-true, accepts-accepted}
 use Rattle.plans.specs.Sound.{Sound, sound}
 use Rattle.plans.specs.declared.Plan.{Plan}
 use Rattle.plans.proofs.Kept.{sound-kept, kept-sound}
@@ -57,11 +55,7 @@ accepted-read s e = λ j. record { answer = e j; plan = accepted-plan s e j }
 -- a value that fits breaks no rule
 fit-rules : (plan : Plan) → Fit plan → rules plan ≡ Accepted
 unfolding fits checked accepts
-fit-rules plan h = go (rules plan) (rw (kept-sound plan (h .sound)) at (fits-exactly plan .1 h))
-  where
-    go : (a : Answer) → accepts a ≡ true → a ≡ Accepted
-    go Accepted e = refl
-    go (Refused r k) e = cc
+fit-rules plan h = accepts-accepted (rules plan) (rw (kept-sound plan (h .sound)) at (fits-exactly plan .1 h))
 
 -- the file of a value that fits is accepted
 fit-accepted : (s : List ℕ) (plan : Plan) (names : List (List ℕ)) → FileOf s plan names → Fit plan → readAnswer s ≡ Accepted

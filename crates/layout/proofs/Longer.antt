@@ -1,6 +1,5 @@
 -- A file of 2,797 bytes or more is answered by its first 2,797: no check looks further, once those before it have accepted. Assumes nothing.
 use Prim.Native.Nat.{ℕ, zero, suc, _+_, _*_, _≤_, _<_, min}
-use mathlib.Core.Bool.{Bool}
 use mathlib.Core.List.{List}
 use mathlib.Core.Path.{_≡_, refl, sym, ap, _∙_}
 use native.Mathlib.Decide.{decLe}
@@ -11,45 +10,19 @@ use borrow.Author.Tests.{le-leb, lt-leb}
 use Rattle.answers.specs.Answers.{first, test, each}
 use Rattle.answers.specs.declared.Answer.{Answer}
 use Rattle.answers.specs.declared.Answer.the-variants.{Accepted, Refused}
-use Rattle.answers.proofs.Laws.{first-accepted-left, first-accepted-right, each-accepted, each-accepted-at, each-ext}
+use Rattle.answers.proofs.Laws.{first-accepted-left, first-accepted-right, first-alike, each-accepted, each-accepted-at, each-alike, each-ext}
 use Rattle.plans.specs.Plan.{zeroType, zeroNode}
-use Rattle.plans.specs.Sound.{all}
+use Rattle.plans.proofs.All.{all-ext}
 use Rattle.fields.specs.Fields.{byteAt, twoAt, fourAt, typeAt, there, checkType}
 use Rattle.decode.specs.Positions.{coresOf, supplyStart, nodesAt, sizeOf, nodeStart, namesAt, nameStart, endAt}
-use Rattle.decode.specs.Decode.{supplyOf, nodeOf, filled, planOf}
+use Rattle.decode.specs.Decode.{supplyOf, nodeOf, planOf}
+use Rattle.decode.proofs.Filled.{filled-ext}
 use Rattle.names.specs.Names.{letterAt, checkLetter, agreesAt, sameName, differs, isNew, checkName, checkNames}
 use Rattle.reader.specs.Read.{checkPart, checkTick, checkCount, checkSupply, checkSupplies, checkKind, checkParent, checkNode, checkNodes, checkEnd, checkBytes, readAnswer, readPlan}
 use Rattle.reader.proofs.Accepts.{name-kept}
 use Rattle.reader.proofs.Spelled.{refused-plan}
 use Rattle.layout.specs.Promises.{LongerAlike}
 use Rattle.layout.proofs.Reach.{few-letters, few-cores, few-nodes, nodes-most, names-most, start-most, bytes-short, longest-plan}
-
--- answers join alike where the first ones are the same, and so are the second ones wherever the first is accepted
-first-alike : {a c b d : Answer} → a ≡ c → (a ≡ Accepted → b ≡ d) → first a b ≡ first c d
-unfolding first
-first-alike {a} {c} {b} {d} e h = go a h ∙ ap (λ x. first x d) e
-  where
-    go : (x : Answer) → (x ≡ Accepted → b ≡ d) → first x b ≡ first x d
-    go Accepted k = k refl
-    go (Refused n k) l = refl
-
--- the first refusal is the same where each answer is, once those before it are accepted
-each-alike : (f g : ℕ → Answer) (n : ℕ) → ((i : ℕ) → i < n → each f i ≡ Accepted → f i ≡ g i) → each f n ≡ each g n
-unfolding each
-each-alike f g zero h = refl
-each-alike f g (suc n) h = first-alike (each-alike f g n (λ i l e. h i (omega arith) e)) (h n (omega arith))
-
--- tests that agree below n hold of all alike,
-all-alike : (f g : ℕ → Bool) (n : ℕ) → ((i : ℕ) → i < n → f i ≡ g i) → all f n ≡ all g n
-unfolding all
-all-alike f g zero h = refl
-all-alike f g (suc n) h = rw (all-alike f g n (λ i l. h i (omega arith)), h n (omega arith))
-
--- and entries that agree fill a list alike
-filled-alike : {A : Type 0} (f g : ℕ → A) (xs : List A) (n : ℕ) → ((i : ℕ) → i < n → f i ≡ g i) → filled f xs n ≡ filled g xs n
-unfolding filled
-filled-alike f g xs zero h = refl
-filled-alike f g xs (suc n) h = rw (filled-alike f g xs n (λ i l. h i (omega arith)), h n (omega arith))
 
 -- two files that agree in their first 2,797 bytes
 record Alike (s r : List ℕ) : Type 0 where
@@ -146,8 +119,8 @@ module _ (s r : List ℕ) (h : Alike s r) where
         rw (
           four-alike 1 (omega arith),
           four-alike 5 (omega arith),
-          filled-alike (supplyOf s) (supplyOf r) (replicate 8 zeroType) (min (coresOf s) 8) (λ i l. type-alike (supplyStart i) (omega arith)),
-          filled-alike (nodeOf s) (nodeOf r) (replicate 64 zeroNode) (min (sizeOf s) 64) (λ i l. node-alike i (omega arith)),
+          filled-ext (supplyOf s) (replicate 8 zeroType) (supplyOf r) (min (coresOf s) 8) (λ i l. type-alike (supplyStart i) (omega arith)),
+          filled-ext (nodeOf s) (replicate 64 zeroNode) (nodeOf r) (min (sizeOf s) 64) (λ i l. node-alike i (omega arith)),
           cores-alike,
           size-alike,
         )
@@ -187,7 +160,7 @@ module _ (s r : List ℕ) (h : Alike s r) where
     unfolding sameName agreesAt
     same-alike a b l m short =
         rw (← h .bytes a (omega arith))
-        (all-alike (agreesAt s a b) (agreesAt r a b) (suc (byteAt s a))
+        (all-ext (agreesAt s a b) (agreesAt r a b) (suc (byteAt s a))
         (λ j k. rw (h .bytes (a + j) (omega arith), h .bytes (b + j) (omega arith))))
 
     module _ (size : sizeOf s ≤ 64) where
@@ -214,7 +187,7 @@ module _ (s r : List ℕ) (h : Alike s r) where
         new-alike : isNew s i ≡ isNew r i
         unfolding isNew differs
         new-alike =
-            all-alike (differs s i) (differs r i) i
+            all-ext (differs s i) (differs r i) i
             (λ j m.
             let accepted = each-accepted-at (checkName s) i e in
             let before = each-accepted (checkName s) j (λ k n. accepted k (omega arith)) in

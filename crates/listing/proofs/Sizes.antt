@@ -6,7 +6,7 @@ use mathlib.Core.Path.{_≡_, refl}
 use lib.Dec.{ltb}
 use lib.ListN.{length, getD, set, take, replicate, length-append}
 use borrow.Author.Tests.{ltb-false, ne-eqb}
-use native.Mathlib.Nat.{le-refl, add-zero, add-suc, pow-suc, div-lt-iff-lt-mul}
+use native.Mathlib.Nat.{pow-suc, div-lt-iff-lt-mul}
 use native.Mathlib.Omega.{arith}
 use Rattle.ticks.specs.Times.{begins}
 use Rattle.meaning.proofs.WellFormed.{bounds}
@@ -19,6 +19,7 @@ use Rattle.plans.specs.declared.Parent.{Parent}
 use Rattle.plans.specs.declared.Parent.the-variants.{Supply, Node as Under}
 use Rattle.plans.specs.declared.Plan.{Plan}
 use Rattle.rules.specs.Fit.{sumTo}
+use Rattle.rules.proofs.Sums.{sum-grows}
 use Rattle.reader.specs.Read.{nameOf}
 use Rattle.dispatch.proofs.Choices.{choice-below}
 use Rattle.dispatch.proofs.SlotsFresh.{replicate-everywhere}
@@ -181,14 +182,6 @@ lays-most f most zero h = omega arith
 lays-most f most (suc n) h =
     omega (arith, length-append (lays f n) (f n), lays-most f most n (λ i l. h i (omega arith)), h n (omega arith))
 
-sum-more : (f : ℕ → ℕ) (n more : ℕ) → sumTo f n ≤ sumTo f (n + more)
-unfolding sumTo
-sum-more f n zero = rw (add-zero n) (le-refl _)
-sum-more f n (suc more) = rw (add-suc n more) (omega (arith, sum-more f n more))
-
-sum-up : (f : ℕ → ℕ) (n m : ℕ) → n ≤ m → sumTo f n ≤ sumTo f m
-sum-up f n m l = let is : n + (m - n) ≡ m = omega arith in rw is at (sum-more f n (m - n))
-
 -- A plan that keeps 2 to 7, with names of at most 32 bytes.
 module _ (s : List ℕ) (plan : Plan) (kept : Sound plan) (named : (i : ℕ) → i < plan .size → length (nameOf s i) ≤ 32) where
   -- what stands behind a node's number
@@ -218,7 +211,7 @@ module _ (s : List ℕ) (plan : Plan) (kept : Sound plan) (named : (i : ℕ) →
   slot-most n l =
       let number = decimal-few 0 n (omega arith) in
       let start = decimal-few 6 (begins (plan .tick) n) (omega (arith, begins-most (plan .tick) n (kept .tick) l)) in
-      let few : sumTo (λ i. 3) (plan .cores) ≤ 24 = sum-up (λ i. 3) (plan .cores) 8 (kept .eight-cores) in
+      let few : sumTo (λ i. 3) (plan .cores) ≤ 24 = sum-grows (λ i. 3) (plan .cores) 8 (kept .eight-cores) in
       let parts = lays-most (answerPart (answers plan) (plan .cores) n) (λ i. 3) (plan .cores) (part-most n) in
       simp length-append (omega arith)
 
@@ -228,7 +221,7 @@ module _ (s : List ℕ) (plan : Plan) (kept : Sound plan) (named : (i : ℕ) →
   accepted-most =
       let size = decimal-few 1 (plan .size) (omega (arith, kept .sixty-four-nodes)) in
       let nodes = lays-most (nodeLine s plan) nodeMost (plan .size) node-most in
-      let most : sumTo nodeMost (plan .size) ≤ 3382 = sum-up nodeMost (plan .size) 64 (kept .sixty-four-nodes) in
+      let most : sumTo nodeMost (plan .size) ≤ 3382 = sum-grows nodeMost (plan .size) 64 (kept .sixty-four-nodes) in
       let slots : length (lays (slotLine plan (answers plan)) 8) ≤ 312 = lays-most (slotLine plan (answers plan)) (λ n. 39) 8 slot-most in
       simp length-append (omega arith)
 

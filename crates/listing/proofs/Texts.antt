@@ -5,11 +5,10 @@ use mathlib.Core.Bool.{Bool, true, false, cond}
 use mathlib.Core.List.{List, _++_, append-assoc}
 use mathlib.Core.Path.{_≡_, refl, sym, ap, _∙_}
 use lib.Dec.{leb}
-use lib.ListN.{length, getD, set, take, drop, length-append}
-use lib.Seq.{paste, paste-suc, length-paste, sets-eq, take-at}
+use lib.ListN.{length, take, drop, length-append}
+use lib.Seq.{sets-eq, take-at}
 use borrow.Author.Tests.{leb-true}
-use native.Mathlib.Nat.{zero-add, le-antisymm}
-use native.Mathlib.Numerals.{add-one}
+use native.Mathlib.Nat.{zero-add}
 use native.Mathlib.Omega.{arith}
 use Rattle.answers.specs.declared.Answer.{Answer}
 use Rattle.answers.specs.declared.Answer.the-variants.{Accepted, Refused}
@@ -138,28 +137,6 @@ module _ (s : List ℕ) (r : Reading) (read : r ≡ readPlan s) where
   pub text-refused : (n k : ℕ) → r .answer ≡ Refused n k → {before after : List ℕ} {next : ℕ} →
       Put before 0 (refusedText n k) next after → Put before 0 (text s) next after
   text-refused n k e p = rw (text-by, e) p
-
--- The loop that copies the first n bytes of a page to a buffer d, whose invariant is (i ≤ n) × (out ≡ take i page ++ drop i d).
-module _ (page d out : List ℕ) (n i : ℕ) (long : length page ≡ 4096) (few : n ≤ 4096) (room : n ≤ length d) (e : out ≡ take i page ++ drop i d) where
-  -- it is a paste at the front
-  pasted : out ≡ paste d 0 page i
-  pasted = rw (zero-add i) e
-
-  -- the buffer keeps its length
-  pub copy-length : i ≤ n → length out ≡ length d
-  copy-length l = ap length pasted ∙ length-paste d 0 page i (omega arith) (omega arith)
-
-  -- there is a place for the next byte
-  pub copy-place : i < n → i < length out
-  copy-place l = omega (arith, copy-length (omega arith))
-
-  -- one byte more
-  pub copy-more : i < n → set out i (getD page i 0) ≡ take (i + 1) page ++ drop (i + 1) d
-  copy-more l = rw (e, add-one i) (simp zero-add at (paste-suc d 0 page i 0 (omega arith) (omega arith)))
-
--- past the last
-pub copy-done : (page d out : List ℕ) (n i : ℕ) → out ≡ take i page ++ drop i d → i ≤ n → n ≤ i → out ≡ take n page ++ drop n d
-copy-done page d out n i e l h = e ∙ ap (λ k. take k page ++ drop k d) (le-antisymm l h)
 
 -- The whole: a text was put at the front of a page, and n is its length.
 module _ (s blank page : List ℕ) (n : ℕ) (put : Put blank 0 (text s) n page) where

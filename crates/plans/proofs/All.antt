@@ -1,4 +1,5 @@
--- The laws of `all`, a test of every number below n: each way, and those of a loop that stops at the first number that fails. Assumes nothing.
+-- The laws of two tests together, and those of `all`, a test of every number below n: each way, and those of a loop that stops at the first number that
+-- fails. Assumes nothing.
 use Prim.Native.Nat.{ℕ, zero, suc, _+_, _≤_, _<_}
 use mathlib.Core.Bool.{Bool, true, false, _&&_, and-eq-true-iff, and-false}
 use mathlib.Core.Logic.{_⊎_, inl, inr}
@@ -16,6 +17,12 @@ left-true a b e = and-eq-true-iff a b .0 e .0
 pub right-true : (a b : Bool) → (a && b) ≡ true → b ≡ true
 right-true a b e = and-eq-true-iff a b .0 e .1
 
+-- two tests that imply each other answer alike
+pub both-ways : (a b : Bool) → (a ≡ true → b ≡ true) → (b ≡ true → a ≡ true) → a ≡ b
+both-ways true b there back = sym (there refl)
+both-ways false true there back = back refl
+both-ways false false there back = refl
+
 module _ (f : ℕ → Bool) where
   -- a test that holds of each number below n holds of all
   pub all-true : (n : ℕ) → ((i : ℕ) → i < n → f i ≡ true) → all f n ≡ true
@@ -32,6 +39,12 @@ module _ (f : ℕ → Bool) where
       go : (i ≡ n) ⊎ (i < n) → (i < n → f i ≡ true) → f i ≡ true
       go (inl at) before = ap f at ∙ right-true (all f n) (f n) e
       go (inr l) before = before l
+
+  -- tests that agree below n hold of all alike
+  pub all-ext : (g : ℕ → Bool) (n : ℕ) → ((i : ℕ) → i < n → f i ≡ g i) → all f n ≡ all g n
+  unfolding all
+  all-ext g zero h = refl
+  all-ext g (suc n) h = rw (all-ext g n (λ i l. h i (omega arith)), h n (omega arith))
 
   -- A loop that tests f 0, f 1, .. below n and stops at the first number that fails. Its invariant: (i ≤ n) × (all f i ≡ true). At its start
   -- nothing has failed:

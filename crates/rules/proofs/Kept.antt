@@ -4,8 +4,8 @@ use mathlib.Core.Bool.{Bool, true, false, cond, false≢true}
 use mathlib.Core.List.{List}
 use mathlib.Core.Path.{_≡_, refl, sym, ap₂, subst, _∙_}
 use Rattle.answers.specs.Answers.{accepts, nowhere}
-use Rattle.answers.specs.declared.Answer.{Answer}
 use Rattle.answers.specs.declared.Answer.the-variants.{Accepted, Refused}
+use Rattle.answers.proofs.Laws.{accepts-accepted}
 use Rattle.plans.specs.Sound.{Sound, sound}
 use Rattle.plans.specs.declared.Plan.{Plan}
 use Rattle.plans.proofs.Kept.{sound-exactly}
@@ -75,12 +75,6 @@ first-exactly plan sound r k = (
       let (b, is, numbered, placed) = h in
       broken-refused plan sound b is ∙ ap₂ Refused numbered placed,
 )
-
--- an answer that accepts is accepted
-accepts-accepted : (a : Answer) → accepts a ≡ true → a ≡ Accepted
-unfolding accepts
-accepts-accepted Accepted e = refl
-accepts-accepted (Refused r k) e = absurd (false≢true e)
 
 -- a value that the test takes fits
 fits-fit : (plan : Plan) → fits plan ≡ true → Fit plan

@@ -1,9 +1,9 @@
 -- A sound plan value fits exactly when it has no breach. Assumes nothing.
-use Prim.Native.Nat.{ℕ, zero, suc, _+_, _*_, _/_, _%_, _≤_, _<_}
+use Prim.Native.Nat.{ℕ, zero, suc, _*_, _/_, _%_, _≤_, _<_}
 use mathlib.Core.Bool.{Bool, true, false, cond}
 use mathlib.Core.Logic.{_⊎_, inl, inr, ⊎-swap}
-use mathlib.Core.Path.{_≡_, refl, ap, subst}
-use native.Mathlib.Nat.{mod-self, eq-or-lt-of-le}
+use mathlib.Core.Path.{_≡_, refl, subst}
+use native.Mathlib.Nat.{mod-self}
 use native.Mathlib.Decide.{decLt}
 use native.Mathlib.Omega.{arith}
 use Rattle.plans.specs.Plan.{parentOf, servedOf, isChild}
@@ -13,18 +13,8 @@ use Rattle.plans.specs.declared.Plan.{Plan}
 use Rattle.plans.proofs.Entries.{parent-of-child}
 use Rattle.rules.specs.Fit.{sumTo, longest, load, loadTo, side, Child, Rule13, Fit}
 use Rattle.rules.specs.Broken.{Breach, eleven, twelve, thirteen, fourteen, place, Broken}
+use Rattle.rules.proofs.Sums.{sum-grows}
 use Rattle.rules.proofs.KeptTests.{Kept, kept-unbroken, unbroken-kept}
-
--- a longer sum is no less
-sum-grows : (f : ℕ → ℕ) (m n : ℕ) → m ≤ n → sumTo f m ≤ sumTo f n
-unfolding sumTo
-sum-grows f zero n l = omega arith
-sum-grows f (suc m) zero l = absurd (omega arith)
-sum-grows f (suc m) (suc n) l = go (eq-or-lt-of-le l) (sum-grows f (suc m) n)
-  where
-    go : (suc m ≡ suc n) ⊎ (suc m < suc n) → (suc m ≤ n → sumTo f (suc m) ≤ sumTo f n) → sumTo f (suc m) ≤ sumTo f n + f n
-    go (inl e) before = omega (arith, ap (sumTo f) e)
-    go (inr h) before = omega (arith, before (omega arith))
 
 module _ (plan : Plan) where
   -- a value that fits keeps every rule everywhere

@@ -1,7 +1,6 @@
 -- Unused entries of a plan value are ignored: values that agree in all but those get the same answer. Assumes nothing.
-use Prim.Native.Nat.{ℕ}
 use mathlib.Core.Bool.{Bool, true, false, cond}
-use mathlib.Core.Path.{_≡_, refl, sym, ap₂, subst, _∙_}
+use mathlib.Core.Path.{_≡_, refl, sym, ap₂, _∙_}
 use native.Mathlib.Omega.{arith}
 use Rattle.answers.specs.Answers.{nowhere}
 use Rattle.answers.specs.declared.Answer.{Answer}
@@ -9,8 +8,9 @@ use Rattle.answers.specs.declared.Answer.the-variants.{Accepted, Refused}
 use Rattle.plans.specs.Promises.{Agree}
 use Rattle.plans.specs.Sound.{Sound, sound}
 use Rattle.plans.specs.declared.Plan.{Plan}
+use Rattle.plans.proofs.All.{both-ways}
 use Rattle.plans.proofs.Kept.{sound-exactly, unused-ignored as sound-alike}
-use Rattle.rules.specs.Broken.{Breach, number, place, FirstBroken}
+use Rattle.rules.specs.Broken.{Breach, FirstBroken}
 use Rattle.rules.specs.Check.{rules, checked}
 use Rattle.rules.specs.Promises.{UnusedIgnored}
 use Rattle.rules.proofs.KeptAlike.{broken-alike}
@@ -26,12 +26,6 @@ agree-back a b agree =
       supplies = λ s l. sym (agree .supplies s (omega (arith, agree .cores)));
       nodes = λ i l. sym (agree .nodes i (omega (arith, agree .size)));
     }
-
--- two tests that imply each other answer alike
-both-ways : (x y : Bool) → (x ≡ true → y ≡ true) → (y ≡ true → x ≡ true) → x ≡ y
-both-ways true y there back = sym (there refl)
-both-ways false true there back = back refl
-both-ways false false there back = refl
 
 module _ (a b : Plan) (agree : Agree a b) (kept : Sound a) where
   also : Sound b

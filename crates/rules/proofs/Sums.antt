@@ -1,10 +1,11 @@
 -- Sums and largest values as the loops of rule 14 build them, and the bounds that keep the sums small. Assumes nothing.
 use Prim.Native.Nat.{ℕ, zero, suc, _+_, _*_, _/_, _≤_, _<_, max}
 use mathlib.Core.Bool.{Bool, true, false, cond}
+use mathlib.Core.Logic.{_⊎_, inl, inr}
 use mathlib.Core.Path.{_≡_, refl, ap, _∙_}
 use mir.Syntax.{w64}
 use mir.Val.{Fits}
-use native.Mathlib.Nat.{le-antisymm, le-trans, max-le, suc-mul}
+use native.Mathlib.Nat.{le-antisymm, le-trans, max-le, suc-mul, eq-or-lt-of-le}
 use native.Mathlib.Numerals.{add-one}
 use native.Mathlib.Omega.{arith}
 use Rattle.meaning.specs.declared.SlotType.{SlotType}
@@ -29,6 +30,17 @@ module _ (f : ℕ → ℕ) (bound : ℕ) where
   unfolding sumTo
   sum-bounded zero h = omega arith
   sum-bounded (suc n) h = omega (arith, suc-mul n bound, sum-bounded n (λ i l. h i (omega arith)), h n (omega arith))
+
+-- a longer sum is no less
+pub sum-grows : (f : ℕ → ℕ) (m n : ℕ) → m ≤ n → sumTo f m ≤ sumTo f n
+unfolding sumTo
+sum-grows f zero n l = omega arith
+sum-grows f (suc m) zero l = absurd (omega arith)
+sum-grows f (suc m) (suc n) l = go (eq-or-lt-of-le l) (sum-grows f (suc m) n)
+  where
+    go : (suc m ≡ suc n) ⊎ (suc m < suc n) → (suc m ≤ n → sumTo f (suc m) ≤ sumTo f n) → sumTo f (suc m) ≤ sumTo f n + f n
+    go (inl e) before = omega (arith, ap (sumTo f) e)
+    go (inr h) before = omega (arith, before (omega arith))
 
 -- a value that counts only where a test holds is bounded where it is so by itself
 cond-bounded : (b : Bool) (n bound : ℕ) → n ≤ bound → cond b n 0 ≤ bound

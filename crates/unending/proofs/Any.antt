@@ -1,17 +1,11 @@
--- Laws of `any`, a test of some number below n, and of two tests that hold together. Assumes nothing.
+-- Laws of `any`, a test of some number below n. Assumes nothing.
 use Prim.Native.Nat.{ℕ, zero, suc, _<_}
 use mathlib.Core.Bool.{Bool, true, false, _||_, or-true}
 use mathlib.Core.Logic.{_⊎_, inl, inr}
-use mathlib.Core.Path.{_≡_, refl, sym}
+use mathlib.Core.Path.{_≡_, refl}
 use native.Mathlib.Nat.{eq-or-lt-of-le, le-of-suc-le-suc}
 use native.Mathlib.Omega.{arith}
 use Rattle.unending.specs.Unending.{any}
-
--- two tests that hold together are the same
-pub true-alike : (a b : Bool) → (a ≡ true → b ≡ true) → (b ≡ true → a ≡ true) → a ≡ b
-true-alike true b f g = sym (f refl)
-true-alike false true f g = g refl
-true-alike false false f g = refl
 
 module _ (f : ℕ → Bool) where
   -- a test that holds of some number below n holds there

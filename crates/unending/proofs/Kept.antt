@@ -7,13 +7,14 @@ use borrow.Author.Tests.{lt-ltb, ltb-true, eq-eqb, eqb-true}
 use native.Mathlib.Nat.{zero-add, add-zero, add-suc, mul-mod-left, mul-add-mod-self-right, mod-eq-of-lt}
 use native.Mathlib.Omega.{arith}
 use Rattle.meaning.specs.Allocation.{ones}
+use Rattle.plans.proofs.All.{both-ways}
 use Rattle.plans.proofs.Parents.{host-there}
 use Rattle.plans.specs.Plan.{parentOf}
 use Rattle.plans.specs.declared.Plan.{Plan}
 use Rattle.rules.specs.Fit.{Fit}
 use Rattle.dispatch.specs.View.{viewOf, servedC, servedT}
 use Rattle.dispatch.specs.Run.{courseTo, course, freshLeft}
-use Rattle.unending.proofs.Any.{true-alike, any-found, any-here}
+use Rattle.unending.proofs.Any.{any-found, any-here}
 use Rattle.unending.proofs.Slots.{slot-kept, may-opened, opened-may, slot-takes, has-next, has-anew}
 use Rattle.unending.specs.Unending.{leftAt, slotAt, has, charged, answers, granted, answersTo, may, top, under}
 use Rattle.unending.specs.Promises.{ChargedExactly, GrantedExactly, Balance, OwnCore, OneChild, FirstPart}
@@ -35,7 +36,7 @@ pub granted-exactly : GrantedExactly
 unfolding granted answers charged has
 granted-exactly plan fit supply declines i n l leaf =
     let kept = slot-kept plan supply declines fit n in
-    true-alike (granted plan supply declines i n) (charged plan supply declines i n)
+    both-ways (granted plan supply declines i n) (charged plan supply declines i n)
     (λ e.
     let (s, below, at) = any-found (answers plan supply declines i n) (plan .cores) e in
     lt-ltb _ _ (kept .answered-fell i s l below (eqb-true _ _ at)))

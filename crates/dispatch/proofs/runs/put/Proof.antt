@@ -1,9 +1,9 @@
 -- `dispatch::runs::put` meets its contract. The invariant: the grants passed are laid down, and the rest is as it was. Assumes nothing.
 use Prim.Native.Nat.{_-_, _≤_}
-use mathlib.Core.Path.{_≡_}
+use mathlib.Core.Path.{_≡_, refl}
 use lib.Seq.{paste, paste-zero}
 use borrow.Author.Needs.{needs}
-use Rattle.dispatch.proofs.Running.{put-length, put-place, put-more, put-done}
+use Rattle.dispatch.proofs.Copying.{copied-length, copied-place, copied-more, copied-done}
 use Rattle.dispatch.proofs.runs.put.Statement.{statement}
 use Rattle.dispatch.proofs.runs.put.Tie as tie
 
@@ -23,7 +23,7 @@ add-out : tie.Need-add-out Inv-loop μ-loop
 add-out c = search needs
 
 slice-write-out : tie.Need-slice-write-out Inv-loop μ-loop
-slice-write-out c = search put-place
+slice-write-out c = search copied-place
 
 add-i : tie.Need-add-i Inv-loop μ-loop
 add-i c = search needs
@@ -32,13 +32,13 @@ loop-less : tie.Need-loop-less Inv-loop μ-loop
 loop-less c = search needs
 
 loop-again : tie.Need-loop-again Inv-loop μ-loop
-loop-again c = search (needs, put-more)
+loop-again c = search (needs, copied-more, refl)
 
 same-length : tie.Need-same-length Inv-loop μ-loop
-same-length c = search put-length
+same-length c = search copied-length
 
 returns : tie.Need-returns Inv-loop μ-loop
-returns c = search put-done
+returns c = search copied-done
 
 pub put-spec : {M : Type 1} → statement M
 put-spec =

@@ -5,7 +5,7 @@ use mathlib.Core.Path.{_≡_, refl}
 use native.Mathlib.Nat.{zero-add}
 use lib.ListN.{length}
 use lib.Seq.{paste}
-use Rattle.numbers.proofs.Stored.{copied-more, copied-all}
+use Rattle.dispatch.proofs.Copying.{copied-more, copied-all}
 use Rattle.exports.proofs.slots.put_grants.Statement.{statement}
 use Rattle.exports.proofs.slots.put_grants.Tie as tie
 

@@ -4,7 +4,7 @@ use Prim.Native.Nat.{_-_, _≤_}
 use mathlib.Core.Path.{_≡_, refl}
 use lib.ListN.{length}
 use lib.Seq.{paste, paste-zero}
-use Rattle.numbers.proofs.Stored.{copied-more, copied-done}
+use Rattle.dispatch.proofs.Copying.{copied-more, copied-done}
 use Rattle.numbers.proofs.states.put_left.Statement.{statement}
 use Rattle.numbers.proofs.states.put_left.Tie as tie
 

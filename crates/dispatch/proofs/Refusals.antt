@@ -19,7 +19,7 @@ use Rattle.plans.proofs.All.{left-true, right-true}
 use Rattle.plans.proofs.Kept.{sound-kept}
 use Rattle.plans.specs.Sound.{all, sound}
 use Rattle.plans.specs.declared.Plan.{Plan}
-use Rattle.rules.specs.Check.{rules, checked, fits}
+use Rattle.rules.specs.Check.{rules, checked, isFit}
 use Rattle.dispatch.proofs.Counting.{size-most}
 use Rattle.dispatch.specs.View.{viewOf}
 use Rattle.dispatch.specs.Run.{freshLeft, started, leftWithin, ready, outcome}
@@ -28,15 +28,15 @@ use Rattle.dispatch.specs.declared.Outcome.the-variants.{Done, Beyond, U
 use Rattle.dispatch.specs.declared.State.{State}
 
 -- a plan value that fits is sound
-pub fits-sound : (plan : Plan) → fits plan ≡ true → sound plan ≡ true
-unfolding fits checked accepts
+pub fits-sound : (plan : Plan) → isFit plan ≡ true → sound plan ≡ true
+unfolding isFit checked accepts
 fits-sound plan = go (sound plan)
   where
     go : (b : Bool) → accepts (cond b (rules plan) (Refused 16 nowhere)) ≡ true → b ≡ true
     go true e = refl
     go false e = e
 
-module _ (plan : Plan) (b : Bool) (fit : b ≡ fits plan) where
+module _ (plan : Plan) (b : Bool) (fit : b ≡ isFit plan) where
   -- a plan value that does not fit is refused a fresh start
   pub start-refused : b ≡ false → record { outcome = Unfit; state = record { clock = 0; left = replicate 64 0 } } ≡ started plan
   unfolding started
@@ -75,7 +75,7 @@ module _ (plan : Plan) (state : State) (a : Bool) (fit : a ≡ ready plan state)
     -- a plan that is ready is sound
     pub ready-sound : sound plan ≡ true
     unfolding ready
-    ready-sound = fits-sound plan (left-true (fits plan) _ (sym fit ∙ h))
+    ready-sound = fits-sound plan (left-true (isFit plan) _ (sym fit ∙ h))
 
     -- it has a supply
     pub ready-cores : 0 < plan .cores
@@ -84,7 +84,7 @@ module _ (plan : Plan) (state : State) (a : Bool) (fit : a ≡ ready plan state)
     -- and the clock is in its range
     pub ready-clock : state .clock ≤ 2 ^ 40
     unfolding ready
-    ready-clock = leb-true (state .clock) (2 ^ 40) (left-true (leb (state .clock) (2 ^ 40)) _ (right-true (fits plan) _ (sym fit ∙ h)))
+    ready-clock = leb-true (state .clock) (2 ^ 40) (left-true (leb (state .clock) (2 ^ 40)) _ (right-true (isFit plan) _ (sym fit ∙ h)))
 
   -- The outcome of a run. Plan value or state are not fit:
   module _ (k declines room : ℕ) where

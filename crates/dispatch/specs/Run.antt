@@ -6,7 +6,7 @@ use lib.Dec.{leb, eqb}
 use lib.ListN.{length, getD, set, take, drop, replicate}
 use Rattle.plans.specs.Sound.{all}
 use Rattle.plans.specs.declared.Plan.{Plan}
-use Rattle.rules.specs.Check.{fits}
+use Rattle.rules.specs.Check.{isFit}
 use Rattle.dispatch.specs.View.{View, viewOf, servedC}
 use Rattle.dispatch.specs.Slot.{slot, unsupplied}
 use Rattle.dispatch.specs.declared.State.{State}
@@ -40,7 +40,7 @@ zeroState = record { clock = 0; left = replicate 64 0 }
 -- 01: "an unfit plan value gives 16", and "a refused fresh start a state of zeros"
 unfoldable pub started : Plan → Ran
 started plan =
-    cond (fits plan)
+    cond (isFit plan)
     (record { outcome = Done; state = record { clock = 0; left = freshLeft (viewOf plan) } })
     (record { outcome = Unfit; state = zeroState })
 
@@ -49,7 +49,7 @@ unfoldable pub leftWithin : Plan → List ℕ → ℕ → Bool
 leftWithin plan left i = leb (getD left i 0) (servedC plan i)
 
 unfoldable pub ready : Plan → State → Bool
-ready plan state = fits plan && (leb (state .clock) (2 ^ 40) && all (leftWithin plan (state .left)) (plan .size))
+ready plan state = isFit plan && (leb (state .clock) (2 ^ 40) && all (leftWithin plan (state .left)) (plan .size))
 
 -- 01: "Refusals in order: 16 .., 17 (unequal inputs or too little room), 15 (n + k over 2^40)"
 unfoldable pub outcome : Plan → State → ℕ → ℕ → ℕ → Outcome

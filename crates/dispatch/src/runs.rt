@@ -52,7 +52,7 @@ fn is_roomy(plan: Plan, k: usize, declines: usize, room: usize) -> bool
     requires { ⌜ 0 < plan .cores ⌝ }
     ensures { λ r. ⌜ r ≡ (eqb k declines && leb (k * plan .cores) room) ⌝ }
 {
-    plans::both(k == declines, k <= room / plan.cores)
+    basics::both(k == declines, k <= room / plan.cores)
 }
 
 // Whether k slots from this clock on end within its range.

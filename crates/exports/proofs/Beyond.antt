@@ -8,7 +8,7 @@ use borrow.Author.Tests.{eq-eqb}
 use Rattle.answers.specs.Answers.{accepts}
 use Rattle.plans.specs.Plan.{zeroPlan}
 use Rattle.plans.specs.Sound.{counts, sound}
-use Rattle.rules.specs.Check.{checked, fits}
+use Rattle.rules.specs.Check.{checked, isFit}
 use Rattle.dispatch.specs.Run.{started, ready, outcome, ran, stepped}
 use Rattle.dispatch.specs.declared.State.{State}
 use Rattle.dispatch.specs.declared.Outcome.{Outcome}
@@ -18,13 +18,13 @@ use Rattle.exports.specs.Exports.{unfitStepped, unfitRan, steppedBy, ran
 use Rattle.exports.specs.Promises.{BeyondFresh, BeyondStep, BeyondRun}
 
 -- the plan value of zeros is not fit
-zero-unfit : fits zeroPlan ≡ false
-unfolding fits checked sound counts accepts zeroPlan
+zero-unfit : isFit zeroPlan ≡ false
+unfolding isFit checked sound counts accepts zeroPlan
 zero-unfit = refl
 
 -- nor is that of numbers that are no plan value's
 module _ (plan : List ℕ) (h : isPlan plan ≡ false) where
-  beyond-unfit : fits (planOfNumbers plan) ≡ false
+  beyond-unfit : isFit (planOfNumbers plan) ≡ false
   unfolding planOfNumbers
   beyond-unfit = rw h zero-unfit
 

@@ -21,7 +21,7 @@ use Rattle.numbers.specs.Numbers.{planOfNumbers, isState, stateOfNumbers, state
 use Rattle.numbers.specs.declared.Given.{Given}
 use Rattle.numbers.proofs.Down.{state-down}
 use Rattle.exports.specs.Exports.{
-  nowhere,
+  placeless,
   refusal,
   outcomeOf,
   steppedBy,
@@ -91,7 +91,7 @@ module _ (plan state : List ℕ) (b : Bool) (e : b ≡ areWhole plan state) wher
   whole-state h = eqb-true (length state) 65 (right-true (eqb (length plan) 404) (eqb (length state) 65) (sym e ∙ h))
 
   -- where they are not right a fresh start leaves the state as it was
-  pub fresh-misfit : b ≡ false → (x : ℕ) → x ≡ refusal 17 nowhere → (x, state) ≡ freshening plan state
+  pub fresh-misfit : b ≡ false → (x : ℕ) → x ≡ refusal 17 placeless → (x, state) ≡ freshening plan state
   unfolding freshening
   fresh-misfit h x l = rw (sym e ∙ h, l)
 
@@ -104,7 +104,7 @@ module _ (plan state : List ℕ) (b : Bool) (e : b ≡ areWhole plan state) wher
       rw (sym e ∙ h, down, l, is, says)
 
   -- a run leaves state and room as they were,
-  pub run-misfit : b ≡ false → (x : ℕ) → x ≡ refusal 17 nowhere → (supplies declines out : List ℕ) → (x, state, out) ≡ running plan state supplies declines out
+  pub run-misfit : b ≡ false → (x : ℕ) → x ≡ refusal 17 placeless → (supplies declines out : List ℕ) → (x, state, out) ≡ running plan state supplies declines out
   unfolding running
   run-misfit h x l supplies declines out = rw (sym e ∙ h, l)
 
@@ -120,12 +120,12 @@ module _ (plan state : List ℕ) (b : Bool) (e : b ≡ areWhole plan state) wher
 
   -- a step leaves state and answers as they were,
   module _ (supplied declines : ℕ) (grants : List ℕ) where
-    pub step-misfit : b ≡ false → (x : ℕ) → x ≡ refusal 17 nowhere → (x, state, grants) ≡ stepping plan state supplied declines grants
+    pub step-misfit : b ≡ false → (x : ℕ) → x ≡ refusal 17 placeless → (x, state, grants) ≡ stepping plan state supplied declines grants
     unfolding stepping
     step-misfit h x l = rw (sym e ∙ h, l)
 
     -- also where there are not eight answers,
-    pub grants-misfit : b ≡ true → (length grants ≡ 8 → ⊥) → (x : ℕ) → x ≡ refusal 17 nowhere → (x, state, grants) ≡ stepping plan state supplied declines grants
+    pub grants-misfit : b ≡ true → (length grants ≡ 8 → ⊥) → (x : ℕ) → x ≡ refusal 17 placeless → (x, state, grants) ≡ stepping plan state supplied declines grants
     unfolding stepping
     grants-misfit h other x l = rw (sym e ∙ h, ne-eqb (length grants) 8 other, l)
 

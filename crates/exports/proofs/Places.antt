@@ -19,7 +19,7 @@ use Rattle.names.specs.Names.{letterAt, checkLetter, checkName, checkNames}
 use Rattle.reader.specs.Read.{checkPart, checkTick, checkCount, checkSupply, checkSupplies, checkKind, checkParent, checkNode, checkNodes, checkEnd, checkBytes, readAnswer, readPlan}
 use Rattle.layout.specs.Promises.{Bytes}
 use Rattle.layout.proofs.Numbers.{byte-small}
-use Rattle.exports.specs.Exports.{nowhere, refusal}
+use Rattle.exports.specs.Exports.{placeless, refusal}
 use Rattle.exports.specs.Promises.{Halves, Told, ReadsTold}
 
 -- number and place are read back
@@ -32,7 +32,7 @@ abbrev Whole : Answer → Type 0
 Whole Accepted = Unit {0}
 Whole (Refused r k) = Told r k
 
-test-whole : (ok : Bool) (r k : ℕ) → 1 ≤ r → r ≤ 14 → k < nowhere → Whole (test ok r k)
+test-whole : (ok : Bool) (r k : ℕ) → 1 ≤ r → r ≤ 14 → k < placeless → Whole (test ok r k)
 unfolding test
 test-whole true r k least most held = tt
 test-whole false r k least most held = record { least = least; most = most; held = held }
@@ -95,7 +95,7 @@ module _ (s : List ℕ) (small : Bytes s) where
   name-early zero = omega (arith, node-early (sizeOf s) few-nodes)
   name-early (suc i) = omega (arith, name-early i, byte (nameStart s i))
 
-  field-whole : (k n : ℕ) (ok : Bool) (r p : ℕ) → k < nowhere → 1 ≤ r → r ≤ 14 → p < nowhere → Whole (first (there s k n) (test ok r p))
+  field-whole : (k n : ℕ) (ok : Bool) (r p : ℕ) → k < placeless → 1 ≤ r → r ≤ 14 → p < placeless → Whole (first (there s k n) (test ok r p))
   unfolding there
   field-whole k n ok r p held least most l = first-whole _ _ (test-whole _ 1 k (omega arith) (omega arith) held) (test-whole ok r p least most l)
 

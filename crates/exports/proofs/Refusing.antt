@@ -17,18 +17,18 @@ use Rattle.answers.specs.declared.Answer.{Answer}
 use Rattle.answers.specs.declared.Answer.the-variants.{Accepted, Refused}
 use Rattle.dispatch.specs.Run.{said}
 use Rattle.dispatch.specs.declared.Outcome.{Outcome}
-use Rattle.exports.specs.Exports.{nowhere, refusal, answerOf, outcomeOf, telling, placeOf, decidingBy, kindNumbered}
+use Rattle.exports.specs.Exports.{placeless, refusal, answerOf, outcomeOf, telling, placeOf, decidingBy, kindNumbered}
 use Rattle.numbers.proofs.Stored.{sets-all}
 
 -- a place that the high half holds
-pub refusal-within : (number place : ℕ) → place < nowhere → number + 4294967296 * place ≡ refusal number place
+pub refusal-within : (number place : ℕ) → place < placeless → number + 4294967296 * place ≡ refusal number place
 unfolding refusal
-refusal-within number place h = let whole : min place nowhere ≡ place = omega arith in rw whole
+refusal-within number place h = let whole : min place placeless ≡ place = omega arith in rw whole
 
 -- any other
-pub refusal-nowhere : (number place : ℕ) → nowhere ≤ place → number + 18446744069414584320 ≡ refusal number place
+pub refusal-placeless : (number place : ℕ) → placeless ≤ place → number + 18446744069414584320 ≡ refusal number place
 unfolding refusal
-refusal-nowhere number place h = let cut : min place nowhere ≡ nowhere = omega arith in rw cut
+refusal-placeless number place h = let cut : min place placeless ≡ placeless = omega arith in rw cut
 
 -- an accepted read answers 0
 pub answer-accepted : (a : Answer) → a ≡ Accepted → 0 ≡ answerOf a
@@ -45,7 +45,7 @@ pub outcome-is : (o o' : Outcome) (x : ℕ) → o ≡ o' → x ≡ outcomeOf (sa
 outcome-is o o' x e h = rw e h
 
 -- what is told of a time, in a slice that is not of one number, and in one that is
-pub told-misfit : (s : times.Said) (lent : List ℕ) (x : ℕ) → (length lent ≡ 1 → ⊥) → x ≡ refusal 17 nowhere → (x, lent) ≡ telling s lent
+pub told-misfit : (s : times.Said) (lent : List ℕ) (x : ℕ) → (length lent ≡ 1 → ⊥) → x ≡ refusal 17 placeless → (x, lent) ≡ telling s lent
 unfolding telling
 told-misfit s lent x h e = rw (ne-eqb (length lent) 1 h, e)
 
@@ -56,7 +56,7 @@ module _ (a : Time) (lent : List ℕ) (one : length lent ≡ 1) where
   told-number v e = rw (eq-eqb (length lent) 1 one, e, sets-all lent (v ∷ []) (sym one))
 
   -- a refusal is answered, and nothing laid down
-  pub told-refused : (b : Time) (r x : ℕ) → a ≡ b → times.said b ≡ times.refused r → x ≡ refusal r nowhere → (x, lent) ≡ telling (times.said a) lent
+  pub told-refused : (b : Time) (r x : ℕ) → a ≡ b → times.said b ≡ times.refused r → x ≡ refusal r placeless → (x, lent) ≡ telling (times.said a) lent
   unfolding telling
   told-refused b r x e s h = rw (eq-eqb (length lent) 1 one, e, s, h)
 
@@ -79,7 +79,7 @@ unfolding kindNumbered
 kind-sliding b h = rw (ne-eqb b 0 h)
 
 -- a pair's refusal by place 255 has no place
-pub pair-nowhere : (number place x : ℕ) → place ≡ 255 → x ≡ refusal number nowhere → x ≡ refusal number (placeOf (placed 255 place))
+pub pair-nowhere : (number place x : ℕ) → place ≡ 255 → x ≡ refusal number placeless → x ≡ refusal number (placeOf (placed 255 place))
 unfolding placed
 pair-nowhere number place x h e = rw h e
 

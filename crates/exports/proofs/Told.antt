@@ -29,7 +29,7 @@ use Rattle.reader.proofs.Kept.{hands-out-fit, refused-gives-zeros}
 use Rattle.numbers.specs.Numbers.{planLaid}
 use Rattle.numbers.proofs.Down.{plan-down}
 use Rattle.exports.specs.Exports.{
-  nowhere,
+  placeless,
   refusal,
   telling,
   starting,
@@ -66,7 +66,7 @@ module _ (tick : Tick) (a : Time) (lent after : List ℕ) (x : ℕ) (told : (x, 
 module _ (gives : ℕ) (giver : SlotType) (wants : ℕ) (wanted : SlotType) (out lent : List ℕ) where
   module _ (x : ℕ) where
     -- an answer of another length than 4
-    pub pair-misfit : (length lent ≡ 4 → ⊥) → x ≡ refusal 17 nowhere → (x, out, lent) ≡ deciding gives giver wants wanted out lent
+    pub pair-misfit : (length lent ≡ 4 → ⊥) → x ≡ refusal 17 placeless → (x, out, lent) ≡ deciding gives giver wants wanted out lent
     unfolding deciding
     pair-misfit h e = rw (ne-eqb (length lent) 4 h, e)
 
@@ -94,7 +94,7 @@ module _ (gives : ℕ) (giver : SlotType) (wants : ℕ) (wanted : SlotType) (out
 -- reading
 module _ (bytes lent : List ℕ) where
   -- a plan of another length than 404
-  pub read-misfit : (length lent ≡ 404 → ⊥) → (x : ℕ) → x ≡ refusal 17 nowhere → (x, lent) ≡ reading bytes lent
+  pub read-misfit : (length lent ≡ 404 → ⊥) → (x : ℕ) → x ≡ refusal 17 placeless → (x, lent) ≡ reading bytes lent
   unfolding reading
   read-misfit h x e = rw (ne-eqb (length lent) 404 h, e)
 
@@ -118,7 +118,7 @@ module _ (bytes lent : List ℕ) where
 -- names
 module _ (bytes : List ℕ) (i : ℕ) (lent : List ℕ) where
   -- an answer of another length than 2
-  pub name-misfit : (length lent ≡ 2 → ⊥) → (x : ℕ) → x ≡ refusal 17 nowhere → (x, lent) ≡ naming bytes i lent
+  pub name-misfit : (length lent ≡ 2 → ⊥) → (x : ℕ) → x ≡ refusal 17 placeless → (x, lent) ≡ naming bytes i lent
   unfolding naming
   name-misfit h x e = rw (ne-eqb (length lent) 2 h, e)
 

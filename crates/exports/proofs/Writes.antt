@@ -12,7 +12,7 @@ use Rattle.types.specs.Decision as pairs
 use Rattle.answers.specs.declared.Answer.{Answer}
 use Rattle.answers.specs.declared.Answer.the-variants.{Accepted, Refused}
 use Rattle.plans.specs.declared.Plan.{Plan}
-use Rattle.rules.specs.Check.{fits}
+use Rattle.rules.specs.Check.{isFit}
 use Rattle.reader.specs.Read.{readPlan}
 use Rattle.reader.proofs.Kept.{refused-gives-zeros}
 use Rattle.dispatch.specs.Slot.{unsupplied}
@@ -132,7 +132,7 @@ refused-read bytes lent whole = rw (eq-eqb (length lent) 404 whole) (go (readPla
 -- fresh starts
 pub refused-fresh : RefusedFresh
 unfolding freshening started stateNumbers
-refused-fresh plan lent whole = rw whole (go (fits (planOfNumbers plan)) _)
+refused-fresh plan lent whole = rw whole (go (isFit (planOfNumbers plan)) _)
   where
     go : (f : Bool) (left : List ℕ) →
         let r : Ran = cond f (record { outcome = Done; state = record { clock = 0; left = left } }) exports.unfitRan in

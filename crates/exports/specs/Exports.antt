@@ -27,22 +27,22 @@ use Rattle.dispatch.specs.declared.Ran.{Ran}
 use Rattle.dispatch.specs.declared.Stepped.{Stepped}
 use Rattle.numbers.specs.Numbers.{planNumbers, planOfNumbers, stateNumbers, stateOfNumbers, isState}
 
--- A refusal: its number in the low half, its place in the high half. A place that the half does not hold, or none, is `nowhere`; no read has one that
+-- A refusal: its number in the low half, its place in the high half. A place that the half does not hold, or none, is `placeless`; no read has one that
 -- is cut (Promises).
-abbrev pub nowhere : ℕ
-nowhere = 0xffff_ffff
+abbrev pub placeless : ℕ
+placeless = 0xffff_ffff
 
 unfoldable pub refusal : ℕ → ℕ → ℕ
-refusal number place = number + 0x1_0000_0000 * min place nowhere
+refusal number place = number + 0x1_0000_0000 * min place placeless
 
 -- 01, refusal 17: "buffer lengths don't fit"
 abbrev pub misfit : ℕ
-misfit = refusal 17 nowhere
+misfit = refusal 17 placeless
 
 -- Slot times. What is asked about is laid down in one number; a refusal leaves the slice as it was.
 abbrev pub tellingBy : times.Said → List ℕ → ℕ × List ℕ
 tellingBy (times.number v) lent = (0, v ∷ [])
-tellingBy (times.refused r) lent = (refusal r nowhere, lent)
+tellingBy (times.refused r) lent = (refusal r placeless, lent)
 
 unfoldable pub telling : times.Said → List ℕ → ℕ × List ℕ
 telling s lent = cond (eqb (length lent) 1) (tellingBy s lent) (misfit, lent)
@@ -62,7 +62,7 @@ slotting tick t = telling (timed tick t (latest tick t))
 -- Pairs of types. A pair that holds: 1, the least ones, 0, 0; one that fails: 0, the window's start, the ones there, the stretch's length. (A decision
 -- with an allocation never says just that a pair falls short.)
 abbrev pub placeOf : Place → ℕ
-placeOf none = nowhere
+placeOf none = placeless
 placeOf (at k) = k
 
 abbrev pub decidingBy : pairs.Said → List ℕ → ℕ × List ℕ
@@ -105,7 +105,7 @@ naming bytes i lent = cond (eqb (length lent) 2) (0, span bytes i) (misfit, lent
 -- Giving out slots. What a call answers by its outcome:
 abbrev pub outcomeOf : runs.Said → ℕ
 outcomeOf runs.done = 0
-outcomeOf (runs.refused r) = refusal r nowhere
+outcomeOf (runs.refused r) = refusal r placeless
 
 -- Numbers out of their fields are answered as an unfit value is, by 16 (Promises). A plan's say the plan value of zeros, which is not fit. A state's say
 -- one of zeros, which may be, so they are told apart here.
@@ -131,7 +131,7 @@ outBy plan state supplies declines out =
 -- 01: a refusal "hands back the given state": it is written only where the call was done
 abbrev pub keeping : runs.Said → State → List ℕ → ℕ × List ℕ
 keeping runs.done after lent = (0, stateNumbers after)
-keeping (runs.refused r) after lent = (refusal r nowhere, lent)
+keeping (runs.refused r) after lent = (refusal r placeless, lent)
 
 -- whether a plan and a state have the lengths that they are to have
 unfoldable pub areWhole : List ℕ → List ℕ → Bool

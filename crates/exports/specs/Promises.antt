@@ -13,7 +13,7 @@ use Rattle.layout.specs.Promises.{Bytes}
 use Rattle.dispatch.specs.Slot.{unsupplied}
 use Rattle.numbers.specs.Numbers.{isPlan, isState}
 use Rattle.numbers.specs.Promises.{LaidOut}
-use Rattle.exports.specs.Exports.{nowhere, refusal, telling, deciding, reading, span, areWhole, freshening, stepping, running}
+use Rattle.exports.specs.Exports.{placeless, refusal, telling, deciding, reading, span, areWhole, freshening, stepping, running}
 
 -- The value of an accepted plan is handed from the read to every call after it as it was read.
 abbrev pub HandedOn : Type 0
@@ -27,13 +27,13 @@ NameThere = (bytes : List ℕ) (i : ℕ) → take (getD (span bytes i) 1 0) (dro
 abbrev pub Halves : Type 0
 Halves =
     (number place : ℕ) → number < 0x1_0000_0000 →
-    (refusal number place % 0x1_0000_0000 ≡ number) × (refusal number place / 0x1_0000_0000 ≡ min place nowhere)
+    (refusal number place % 0x1_0000_0000 ≡ number) × (refusal number place / 0x1_0000_0000 ≡ min place placeless)
 
 -- A refused read has a number from 1 to 14, so that its answer is not 0, and a place that its half holds.
 pub record Told (number place : ℕ) : Type 0 where
   pub least : 1 ≤ number
   pub most : number ≤ 14
-  pub held : place < nowhere
+  pub held : place < placeless
 
 abbrev pub ReadsTold : Type 0
 ReadsTold = (bytes : List ℕ) → Bytes bytes → (number place : ℕ) → readPlan bytes .answer ≡ Refused number place → Told number place
@@ -70,16 +70,16 @@ RefusedFresh = (plan lent : List ℕ) → areWhole plan lent ≡ true → let w 
 
 -- include/mettulos.h: numbers beyond their field, in unused entries too, "make the value unfit: 16", once the lengths are right. Of a fresh start:
 abbrev pub BeyondFresh : Type 0
-BeyondFresh = (plan lent : List ℕ) → areWhole plan lent ≡ true → isPlan plan ≡ false → freshening plan lent .0 ≡ refusal 16 nowhere
+BeyondFresh = (plan lent : List ℕ) → areWhole plan lent ≡ true → isPlan plan ≡ false → freshening plan lent .0 ≡ refusal 16 placeless
 
 -- of a step:
 abbrev pub BeyondStep : Type 0
 BeyondStep =
     (plan state : List ℕ) (supplied declines : ℕ) (grants : List ℕ) → areWhole plan state ≡ true → length grants ≡ 8 →
-    (isPlan plan && isState state) ≡ false → stepping plan state supplied declines grants .0 ≡ refusal 16 nowhere
+    (isPlan plan && isState state) ≡ false → stepping plan state supplied declines grants .0 ≡ refusal 16 placeless
 
 -- of a run, before its other lengths are looked at:
 abbrev pub BeyondRun : Type 0
 BeyondRun =
     (plan state supplies declines out : List ℕ) → areWhole plan state ≡ true → (isPlan plan && isState state) ≡ false →
-    running plan state supplies declines out .0 ≡ refusal 16 nowhere
+    running plan state supplies declines out .0 ≡ refusal 16 placeless

@@ -55,7 +55,7 @@ fn refused(number: u8, place: u8) -> u64
     ensures { λ r. ⌜ r ≡ refusal number (placeOf (placed 255 place)) ⌝ }
 {
     if place == 255 {
-        crate::refusals::refusal(number, crate::refusals::NOWHERE)
+        crate::refusals::refusal(number, crate::refusals::PLACELESS)
     } else {
         crate::refusals::refusal(number, place as usize)
     }

@@ -26,7 +26,7 @@ pub extern "C" fn mettulos_decide(
         deciding gives (record { c = «giver_c»; t = «giver_t» }) wants (record { c = «wanted_c»; t = «wanted_t» }) (now (out .entry)) (now (answer .entry)) ⌝ }
 {
     if answer.len() != 4 {
-        return refusals::refusal(17, refusals::NOWHERE);
+        return refusals::refusal(17, refusals::PLACELESS);
     }
     if 1 < gives {
         return refusals::refusal(5, 0);
@@ -53,7 +53,7 @@ pub extern "C" fn mettulos_read(bytes: &[u8], plan: &mut [u32]) -> u64
     ensures { λ r. ⌜ (r, now (plan .exit)) ≡ reading (now (bytes .entry)) (now (plan .entry)) ⌝ }
 {
     if plan.len() != 404 {
-        return refusals::refusal(17, refusals::NOWHERE);
+        return refusals::refusal(17, refusals::PLACELESS);
     }
     let read = reader::read(bytes);
     let value = read.plan;
@@ -69,7 +69,7 @@ pub extern "C" fn mettulos_name(bytes: &[u8], i: usize, answer: &mut [u64]) -> u
     ensures { λ r. ⌜ (r, now (answer .exit)) ≡ naming (now (bytes .entry)) i (now (answer .entry)) ⌝ }
 {
     if answer.len() != 2 {
-        return refusals::refusal(17, refusals::NOWHERE);
+        return refusals::refusal(17, refusals::PLACELESS);
     }
     let length = reader::name(bytes, i).len();
     if length == 0 {
@@ -88,7 +88,7 @@ pub extern "C" fn mettulos_fresh(plan: &[u32], state: &mut [u64]) -> u64
     ensures { λ r. ⌜ (r, now (state .exit)) ≡ freshening (now (plan .entry)) (now (state .entry)) ⌝ }
 {
     if !slots::are_whole(plan, state) {
-        return refusals::refusal(17, refusals::NOWHERE);
+        return refusals::refusal(17, refusals::PLACELESS);
     }
     let ran = dispatch::fresh(numbers::plan_of(plan));
     let after = ran.state;
@@ -111,10 +111,10 @@ pub extern "C" fn mettulos_step(
         stepping (now (plan .entry)) (now (state .entry)) supplied declines (now (grants .entry)) ⌝ }
 {
     if !slots::are_whole(plan, state) {
-        return refusals::refusal(17, refusals::NOWHERE);
+        return refusals::refusal(17, refusals::PLACELESS);
     }
     if grants.len() != 8 {
-        return refusals::refusal(17, refusals::NOWHERE);
+        return refusals::refusal(17, refusals::PLACELESS);
     }
     let stepped = slots::step(plan, state, supplied, declines);
     let answers = stepped.grants;
@@ -137,7 +137,7 @@ pub extern "C" fn mettulos_run(
         running (now (plan .entry)) (now (state .entry)) (now (supplies .entry)) (now (declines .entry)) (now (out .entry)) ⌝ }
 {
     if !slots::are_whole(plan, state) {
-        return refusals::refusal(17, refusals::NOWHERE);
+        return refusals::refusal(17, refusals::PLACELESS);
     }
     let ran = slots::run(plan, state, supplies, declines, out);
     let outcome = ran.outcome;

@@ -7,14 +7,14 @@ use answers::Answer;
 use dispatch::Outcome;
 
 // The place of a refusal that has none.
-pub const NOWHERE: usize = 4294967295;
+pub const PLACELESS: usize = 4294967295;
 
 // The number in the low half, the place in the high half.
 pub fn refusal(number: u8, place: usize) -> u64
     ensures { λ r. ⌜ r ≡ refusal number place ⌝ }
 {
     let low = number as u64;
-    if place < NOWHERE {
+    if place < PLACELESS {
         low + 4294967296 * (place as u64)
     } else {
         low + 18446744069414584320
@@ -37,9 +37,9 @@ pub fn of_outcome(o: Outcome) -> u64
 {
     match o {
         Outcome::Done => 0,
-        Outcome::Beyond => refusal(15, NOWHERE),
-        Outcome::Unfit => refusal(16, NOWHERE),
-        Outcome::Misfit => refusal(17, NOWHERE),
+        Outcome::Beyond => refusal(15, PLACELESS),
+        Outcome::Unfit => refusal(16, PLACELESS),
+        Outcome::Misfit => refusal(17, PLACELESS),
     }
 }
 
@@ -48,14 +48,14 @@ pub fn tell(a: ticks::Answer, answer: &mut [u64]) -> u64
     ensures { λ r. ⌜ (r, now (answer .exit)) ≡ telling (times.said a) (now (answer .entry)) ⌝ }
 {
     if answer.len() != 1 {
-        return refusal(17, NOWHERE);
+        return refusal(17, PLACELESS);
     }
     match a {
         ticks::Answer::Number(v) => {
             answer[0] = v;
             0
         }
-        ticks::Answer::Beyond => refusal(15, NOWHERE),
-        ticks::Answer::Unfit => refusal(16, NOWHERE),
+        ticks::Answer::Beyond => refusal(15, PLACELESS),
+        ticks::Answer::Unfit => refusal(16, PLACELESS),
     }
 }

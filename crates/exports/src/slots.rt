@@ -12,7 +12,7 @@ use dispatch::Stepped;
 pub fn are_whole(plan: &[u32], state: &[u64]) -> bool
     ensures { λ r. ⌜ r ≡ areWhole (now (plan .entry)) (now (state .entry)) ⌝ }
 {
-    plans::both(plan.len() == 404, state.len() == 65)
+    basics::both(plan.len() == 404, state.len() == 65)
 }
 
 // One slot, of the values that the numbers say. What state an unfit step hands back does not matter: it is not laid down.

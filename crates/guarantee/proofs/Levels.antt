@@ -14,7 +14,7 @@ use Rattle.plans.specs.Plan.{ownType, isChild}
 use Rattle.plans.specs.declared.Parent.{Parent}
 use Rattle.plans.specs.declared.Plan.{Plan}
 use Rattle.plans.proofs.Entries.{child-of-parent, parent-of-child}
-use Rattle.rules.specs.Fit.{Child, Fit, childPeriod, longest, load, loadTo, side}
+use Rattle.rules.specs.Fit.{Child, Fit, childPeriod, longest, load, loadTo, owes, side}
 use Rattle.dispatch.specs.View.{bitOf, isLeaf, servedC, servedT}
 use Rattle.unending.specs.Unending.{has, charged, may}
 use Rattle.levels.specs.Level.{Books, Level, Offered, Kept}
@@ -65,7 +65,7 @@ module _ (plan : Plan) (supply declines : ℕ → ℕ) where
         c = servedC plan;
         t = servedT plan;
         gives = may plan supply declines x;
-        owes = λ t. ownType plan x .c * (t / ownType plan x .t);
+        owes = owes (ownType plan x);
         has = has plan supply declines;
         charged = charged plan supply declines;
         sooner = sooner plan;
@@ -89,7 +89,7 @@ module _ (plan : Plan) (supply declines : ℕ → ℕ) where
 
   -- where a parent of a fit plan honours its own type its level is kept
   pub level-kept : Fit plan → Keeps → (x : Parent) → Honours Aligned (ownType plan x) (may plan supply declines x) → Kept (levelOf x)
-  unfolding servedT servedC Levels.longest Levels.load longest load loadTo side childPeriod
+  unfolding servedT servedC Levels.longest Levels.load longest load loadTo owes side childPeriod
   level-kept fit keeps x honours =
       record {
         given = λ i c.

@@ -23,7 +23,7 @@ use Rattle.plans.specs.Sound.{all, allows, parentAllowed, upTo, within, soundNo
 use Rattle.plans.specs.declared.Plan.{Plan}
 use Rattle.plans.proofs.All.{all-true-at}
 use Rattle.plans.proofs.Kept.{sound-kept}
-use Rattle.rules.specs.Fit.{sumTo, mostTo, childPeriod, longest, load, loadTo, side}
+use Rattle.rules.specs.Fit.{sumTo, mostTo, childPeriod, longest, load, loadTo, owes, side}
 use Rattle.rules.specs.Check as check
 use Rattle.fields.specs.Fields.{byteAt, twoAt, fourAt, typeAt, there, checkType}
 use Rattle.decode.specs.Positions.{coresOf, supplyStart, nodesAt, sizeOf, nodeStart, namesAt, nameStart, endAt}
@@ -40,7 +40,7 @@ use Rattle.dispatch.specs.Run.{started, ran}
 use Rattle.dispatch.specs.declared.Outcome.{Outcome}
 use Rattle.dispatch.specs.declared.Outcome.the-variants.{Done}
 use Rattle.unending.specs.Unending.{any}
-use Rattle.guarantee.specs.Partition.{core, KeepsTypes, FirstPartOf, answered, receives}
+use Rattle.guarantee.specs.Partition.{slotsOf, KeepsTypes, FirstPartOf, answered, receives}
 use Rattle.guarantee.specs.Needed.{
   Case,
   asked,
@@ -73,15 +73,15 @@ ones-all α set s zero = refl
 ones-all α set s (suc n) = rw (set (s + n), ones-all α set s n) (add-one n)
 
 -- every core's bit is set in 255
-core-always : (s : ℕ) → s < 8 → (n : ℕ) → core always s n ≡ true
-unfolding core bitOf all
+core-always : (s : ℕ) → s < 8 → (n : ℕ) → slotsOf always s n ≡ true
+unfolding slotsOf bitOf all
 core-always s l n = all-true-at (bitOf 255) 8 refl s l
 
 -- a supply of every core in every slot keeps a sound plan's types
 always-keeps : (plan : Plan) → sound plan ≡ true → KeepsTypes plan always
 always-keeps plan e s l b starts =
     let is = sound-kept plan e in
-    rw (ones-all (core always s) (core-always s (omega (arith, is .eight-cores))) b (supplyAt plan s .t))
+    rw (ones-all (slotsOf always s) (core-always s (omega (arith, is .eight-cores))) b (supplyAt plan s .t))
     (bounds (supplyAt plan s) (is .supplies s l) .fits)
 
 -- whether a run's supply byte k is the unending supply's, and whether leaf i accepts slot k
@@ -164,9 +164,9 @@ computed : NotEmpty × ShortSupply × DeclinedOnce × OutsideRun × OffMultiple
 unfolding
     inRange isFit ones lowest wellFormed written judged step turns onesFrom onesAt leastOnes accepts first test each
     nodeAt supplyAt hosting isHost wantedAs ownType same isChild all allows parentAllowed upTo within soundNode soundSupply counts sound
-    sumTo mostTo childPeriod longest load loadTo side
+    sumTo mostTo childPeriod longest load loadTo owes side
     check.holding check.elevenAt check.twelveAt check.alike check.thirteenAt check.fourteenAt check.checkParent check.checkSupply check.checkHost
-    check.rules check.checked check.fits
+    check.rules check.checked check.isFit
     byteAt twoAt fourAt typeAt there checkType coresOf supplyStart nodesAt sizeOf nodeStart namesAt nameStart endAt
     kindNamed parentNamed isNamed parentOr supplyOf nodeOf filled planOf
     isLength isLetter letterAt checkLetter agreesAt sameName differs isNew checkName checkNames
@@ -175,7 +175,7 @@ unfolding
     bitOf isLeaf servedC servedT eligible prefer consider chooseTo choose
     refillOne refillTo refilled charge follow walk granting serveCore serveTo slot
     run.freshTo run.freshLeft run.started run.leftWithin run.ready run.outcome run.courseTo run.course run.ran run.outAfter
-    any core answered receives begins takes look
+    any slotsOf answered receives begins takes look
 computed = (
   (
     (runs logServed refl, always-keeps bus refl, (0, refl), omega arith, accepting logServed refl),

@@ -15,7 +15,7 @@ use borrow.Author.Tests.{eqb-true}
 use Rattle.plans.specs.Sound.{all}
 use Rattle.plans.specs.declared.Plan.{Plan}
 use Rattle.plans.proofs.All.{left-true}
-use Rattle.rules.specs.Check.{fits}
+use Rattle.rules.specs.Check.{isFit}
 use Rattle.dispatch.specs.View.{viewOf}
 use Rattle.dispatch.specs.Slot.{unsupplied}
 use Rattle.dispatch.specs.Run.{freshLeft, started, leftWithin, ready, outcome, course, ran, outAfter}
@@ -82,7 +82,7 @@ done-ready true false c e = (refl, cc)
 done-ready false b c e = (cc, cc)
 
 -- a fit plan starts with all that is served left
-fit-fresh : (plan : Plan) → fits plan ≡ true → started plan .state ≡ record { clock = 0; left = freshLeft (viewOf plan) }
+fit-fresh : (plan : Plan) → isFit plan ≡ true → started plan .state ≡ record { clock = 0; left = freshLeft (viewOf plan) }
 unfolding started
 fit-fresh plan e = rw e
 
@@ -103,7 +103,7 @@ module _ {bytes : List ℕ} {plan : Plan} {supplies declines out : List ℕ} (ru
   unfolding ready
   fresh =
       let state = started plan .state in
-      fit-fresh plan (left-true (fits plan) (leb (state .clock) (2 ^ 40) && all (leftWithin plan (state .left)) (plan .size)) (passed .0))
+      fit-fresh plan (left-true (isFit plan) (leb (state .clock) (2 ^ 40) && all (leftWithin plan (state .left)) (plan .size)) (passed .0))
 
   -- it has as many decline words as supply bytes
   same-lengths : length supplies ≡ length declines

@@ -21,7 +21,7 @@ use Rattle.dispatch.specs.View.{isLeaf, servedC, servedT}
 use Rattle.unending.specs.Unending.{charged, may}
 use Rattle.levels.specs.Level.{Offered}
 use Rattle.levels.proofs.Level.{offered-honours}
-use Rattle.guarantee.specs.Partition.{core, KeepsTypes}
+use Rattle.guarantee.specs.Partition.{slotsOf, KeepsTypes}
 use Rattle.guarantee.proofs.Levels.{levelOf, Keeps, in-level, level-kept}
 
 -- a host wants its type aligned
@@ -51,7 +51,7 @@ module _ (plan : Plan) (fit : Fit plan) (supply declines : ℕ → ℕ) (keeps :
   -- the slots that a node's parent may give honour the parent's own type
   parent-honours : (k i : ℕ) → i < k → i < plan .size →
       Honours Aligned (ownType plan (parentOf plan i)) (may plan supply declines (parentOf plan i))
-  unfolding ownType may core isHost
+  unfolding ownType may slotsOf isHost
   parent-honours zero i m l = absurd (omega arith)
   parent-honours (suc k) i m l = go (parentOf plan i) refl (parent-honours k)
     where

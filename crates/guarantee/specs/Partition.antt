@@ -11,7 +11,7 @@ use Rattle.meaning.specs.declared.Kind.{Kind}
 use Rattle.meaning.specs.declared.Kind.the-variants.{Aligned}
 use Rattle.answers.specs.declared.Answer.{Answer}
 use Rattle.answers.specs.declared.Answer.the-variants.{Accepted}
-use Rattle.plans.specs.Plan.{supplyAt, kindOf, wantedOf, servedOf, wantedAs, isHost}
+use Rattle.plans.specs.Plan.{There, supplyAt, kindOf, wantedOf, servedOf, wantedAs, isHost}
 use Rattle.plans.specs.declared.Plan.{Plan}
 use Rattle.reader.specs.Read.{readPlan}
 use Rattle.reader.specs.declared.Reading.{Reading}
@@ -23,12 +23,12 @@ use Rattle.dispatch.specs.declared.Outcome.the-variants.{Done}
 use Rattle.unending.specs.Unending.{any}
 
 -- Core s over time, under an unending supply: the slots in which its bit is set.
-unfoldable pub core : (ℕ → ℕ) → ℕ → Allocation
-core supply s n = bitOf (supply n) s
+unfoldable pub slotsOf : (ℕ → ℕ) → ℕ → Allocation
+slotsOf supply s n = bitOf (supply n) s
 
 -- "any unending supply that gives each core its stated slots in every aligned period"
 abbrev pub KeepsTypes : Plan → (ℕ → ℕ) → Type 0
-KeepsTypes plan supply = (s : ℕ) → s < plan .cores → Honours Aligned (supplyAt plan s) (core supply s)
+KeepsTypes plan supply = (s : ℕ) → s < plan .cores → Honours Aligned (supplyAt plan s) (slotsOf supply s)
 
 -- "In any run over its first part": the run's supply bytes are the first ones of the unending supply.
 abbrev pub FirstPartOf : List ℕ → (ℕ → ℕ) → Type 0
@@ -52,7 +52,7 @@ receives plan buffer i n = any (answered plan buffer i n) (plan .cores)
 
 -- a partition: a node of the plan that is a leaf
 pub record Partition (plan : Plan) (i : ℕ) : Type 0 where
-  pub there : i < plan .size
+  pub there : There plan i
   pub leaf : isHost plan i ≡ false
 
 -- "every one of its windows that lies inside the run": an aligned leaf's windows start at multiples of T', a sliding leaf's anywhere

@@ -2,12 +2,12 @@
 -- In any run over its first part, a partition receives at least the slots it asked for in every one of its windows that lies inside the run, provided it
 -- declines in no slot of its served periods that touch that window. No partition or virtual host is ever granted more than its served number in one
 -- aligned served period, even where the supply falls short." Why each holds is in proofs/. Assumes nothing.
-use Prim.Native.Nat.{ℕ, _+_, _*_, _≤_, _<_}
+use Prim.Native.Nat.{ℕ, _+_, _*_, _≤_}
 use mathlib.Core.List.{List}
 use mathlib.Core.Path.{_≡_}
 use lib.ListN.{length}
 use Rattle.meaning.specs.Allocation.{ones}
-use Rattle.plans.specs.Plan.{wantedOf, servedOf}
+use Rattle.plans.specs.Plan.{There, wantedOf, servedOf}
 use Rattle.plans.specs.declared.Plan.{Plan}
 use Rattle.rules.specs.Fit.{Fit}
 use Rattle.unending.specs.Unending.{charged}
@@ -41,5 +41,5 @@ NeverMore =
 -- and no node, partition or host, is charged more than that in any served period, under any supply and whoever declines
 abbrev pub NeverChargedMore : Type 0
 NeverChargedMore =
-    (plan : Plan) → Fit plan → (supply declines : ℕ → ℕ) (i b : ℕ) → i < plan .size →
+    (plan : Plan) → Fit plan → (supply declines : ℕ → ℕ) (i b : ℕ) → There plan i →
     ones (charged plan supply declines i) (b * servedOf plan i .t) (servedOf plan i .t) ≤ servedOf plan i .c

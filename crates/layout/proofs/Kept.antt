@@ -14,7 +14,7 @@ use Rattle.plans.specs.declared.Plan.{Plan}
 use Rattle.plans.proofs.Kept.{sound-kept, kept-sound}
 use Rattle.rules.specs.Fit.{Fit}
 use Rattle.rules.specs.Broken.{Breach, FirstBroken, number, place}
-use Rattle.rules.specs.Check.{rules, checked, fits}
+use Rattle.rules.specs.Check.{rules, checked, isFit}
 use Rattle.rules.proofs.Kept.{fits-exactly, first-exactly}
 use Rattle.decode.specs.Positions.{sizeOf}
 use Rattle.decode.specs.Decode.{planOf}
@@ -54,7 +54,7 @@ accepted-read s e = λ j. record { answer = e j; plan = accepted-plan s e j }
 
 -- a value that fits breaks no rule
 fit-rules : (plan : Plan) → Fit plan → rules plan ≡ Accepted
-unfolding fits checked accepts
+unfolding isFit checked accepts
 fit-rules plan h = accepts-accepted (rules plan) (rw (kept-sound plan (h .sound)) at (fits-exactly plan .1 h))
 
 -- the file of a value that fits is accepted

@@ -4,7 +4,7 @@ use mathlib.Core.List.{List, [], _∷_, _++_}
 use mathlib.Core.Path.{_≡_}
 use lib.ListN.{length, getD}
 use Rattle.meaning.specs.declared.SlotType.{SlotType}
-use Rattle.plans.specs.Plan.{supplyAt, nodeAt}
+use Rattle.plans.specs.Plan.{There, supplyAt, nodeAt}
 use Rattle.plans.specs.declared.NodeKind.{NodeKind}
 use Rattle.plans.specs.declared.NodeKind.the-variants.{AlignedLeaf, SlidingLeaf, Host}
 use Rattle.plans.specs.declared.Parent.{Parent}
@@ -64,8 +64,8 @@ planBytes plan names =
 -- 01: "a length byte 1 to 32, then that many bytes, each 33 to 126. No name occurs twice"
 pub record SoundNames (plan : Plan) (names : List (List ℕ)) : Type 0 where
   pub count : length names ≡ plan .size
-  pub some : (i : ℕ) → i < plan .size → 1 ≤ length (getD names i [])
-  pub short : (i : ℕ) → i < plan .size → length (getD names i []) ≤ 32
-  pub letters : (i k : ℕ) → i < plan .size → k < length (getD names i []) →
+  pub some : (i : ℕ) → There plan i → 1 ≤ length (getD names i [])
+  pub short : (i : ℕ) → There plan i → length (getD names i []) ≤ 32
+  pub letters : (i k : ℕ) → There plan i → k < length (getD names i []) →
       (33 ≤ getD (getD names i []) k 0) × (getD (getD names i []) k 0 ≤ 126)
-  pub distinct : (i j : ℕ) → i < plan .size → j < plan .size → getD names i [] ≡ getD names j [] → i ≡ j
+  pub distinct : (i j : ℕ) → There plan i → There plan j → getD names i [] ≡ getD names j [] → i ≡ j

@@ -7,7 +7,7 @@ use mathlib.Core.Path.{_≡_}
 use lib.ListN.{length, getD, take}
 use Rattle.answers.specs.declared.Answer.{Answer}
 use Rattle.answers.specs.declared.Answer.the-variants.{Accepted, Refused}
-use Rattle.plans.specs.Plan.{Tidy}
+use Rattle.plans.specs.Plan.{There, Tidy}
 use Rattle.plans.specs.Sound.{Sound}
 use Rattle.plans.specs.declared.Plan.{Plan}
 use Rattle.rules.specs.Fit.{Fit}
@@ -49,7 +49,7 @@ OneReading =
 -- A name that is handed out is the one that planBytes placed.
 abbrev pub NamesPlaced : Type 0
 NamesPlaced =
-    (s : List ℕ) (plan : Plan) (names : List (List ℕ)) → Bytes s → FileOf s plan names → Fit plan → (i : ℕ) → i < plan .size →
+    (s : List ℕ) (plan : Plan) (names : List (List ℕ)) → Bytes s → FileOf s plan names → Fit plan → (i : ℕ) → There plan i →
     nameOf s i ≡ getD names i []
 
 -- 01: "The longest plan has 2,796 bytes"

@@ -10,7 +10,7 @@ use native.Mathlib.Omega.{arith}
 use mir.Syntax.{w64}
 use mir.Val.{Fits}
 use Rattle.ticks.proofs.Answers.{fit}
-use Rattle.ticks.specs.Times.{isFit, begins, number, said, limited, timed}
+use Rattle.ticks.specs.Times.{isFit as isFitTick, begins, number, said, limited, timed}
 use Rattle.ticks.specs.declared.Tick.{Tick}
 use Rattle.ticks.specs.declared.Answer.{Answer}
 use Rattle.ticks.specs.declared.Answer.the-variants.{Number, Beyond, Unfit}
@@ -18,7 +18,7 @@ use Rattle.plans.proofs.All.{all-true}
 use Rattle.plans.proofs.Kept.{sound-kept}
 use Rattle.plans.specs.Sound.{Sound, all, sound}
 use Rattle.plans.specs.declared.Plan.{Plan}
-use Rattle.rules.specs.Check.{fits}
+use Rattle.rules.specs.Check.{isFit}
 use Rattle.dispatch.proofs.Refusals.{fits-sound}
 use Rattle.dispatch.proofs.Running.{length-answers}
 use Rattle.dispatch.proofs.SlotsFresh.{fresh-count}
@@ -33,7 +33,7 @@ use Rattle.layout.specs.Layout.{lays}
 use Rattle.listing.specs.Text.{decimal, space, newline, answers, answerText, answerPart, slotWord, slotLine}
 
 -- The start of one of the first eight slots, where a is what was answered.
-module _ (tick : Tick) (n : ℕ) (good : isFit tick ≡ true) (few : n < 8) where
+module _ (tick : Tick) (n : ℕ) (good : isFitTick tick ≡ true) (few : n < 8) where
   -- it begins within seven seconds
   pub begins-most : begins tick n ≤ 7_000_000
   unfolding begins
@@ -60,7 +60,7 @@ module _ (tick : Tick) (n : ℕ) (good : isFit tick ≡ true) (few : n < 8) wher
     start-unfit h = let is : said Unfit ≡ number (begins tick n) = rw h at told in cc
 
 -- a sound plan has a fit tick
-pub plan-fit : (plan : Plan) → sound plan ≡ true → isFit (plan .tick) ≡ true
+pub plan-fit : (plan : Plan) → sound plan ≡ true → isFitTick (plan .tick) ≡ true
 plan-fit plan e = sound-kept plan e .tick
 
 -- and eight cores at most
@@ -68,7 +68,7 @@ pub plan-cores : (plan : Plan) → sound plan ≡ true → plan .cores ≤ 8
 plan-cores plan e = sound-kept plan e .eight-cores
 
 -- The first eight slots of a plan that fits, all cores supplied and nobody declining.
-module _ (plan : Plan) (fitting : fits plan ≡ true) where
+module _ (plan : Plan) (fitting : isFit plan ≡ true) where
   kept : Sound plan
   kept = sound-kept plan (fits-sound plan fitting)
 

@@ -14,7 +14,7 @@ use Rattle.answers.specs.declared.Answer.{Answer}
 use Rattle.answers.specs.declared.Answer.the-variants.{Accepted, Refused}
 use Rattle.plans.specs.declared.Plan.{Plan}
 use Rattle.rules.proofs.Kept.{fits-exactly}
-use Rattle.rules.specs.Check.{fits}
+use Rattle.rules.specs.Check.{isFit}
 use Rattle.reader.proofs.Kept.{hands-out-fit}
 use Rattle.reader.specs.Read.{readPlan, nameOf}
 use Rattle.reader.specs.declared.Reading.{Reading}
@@ -117,7 +117,7 @@ text-most s bytes = go (readPlan s .answer) refl
 -- The text of a plan whose reading is r.
 module _ (s : List ℕ) (r : Reading) (read : r ≡ readPlan s) where
   -- an accepted plan fits,
-  pub accepted-fits : r .answer ≡ Accepted → fits (r .plan) ≡ true
+  pub accepted-fits : r .answer ≡ Accepted → isFit (r .plan) ≡ true
   accepted-fits e = fits-exactly (r .plan) .1 (rw (sym read) at (hands-out-fit s (rw read at e)))
 
   text-by : text s ≡ textBy s (r .plan) (r .answer)

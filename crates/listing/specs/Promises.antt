@@ -1,8 +1,9 @@
 -- What is promised of a listing. Why each holds is in proofs/. Assumes nothing.
-use Prim.Native.Nat.{ℕ, _≤_, _<_}
+use Prim.Native.Nat.{ℕ, _≤_}
 use mathlib.Core.List.{List}
 use mathlib.Core.Path.{_≡_}
 use lib.ListN.{length, take}
+use Rattle.plans.specs.Plan.{There}
 use Rattle.plans.specs.Sound.{Sound, Depth}
 use Rattle.plans.specs.declared.Plan.{Plan}
 use Rattle.layout.specs.Promises.{Bytes}
@@ -15,7 +16,7 @@ Suffices = (s : List ℕ) → Bytes s → length (text s) ≤ 3708
 
 -- the depth that is printed is the node's depth
 abbrev pub DepthPrinted : Type 0
-DepthPrinted = (plan : Plan) → Sound plan → (i : ℕ) → i < plan .size → Depth plan i (depthOf plan i)
+DepthPrinted = (plan : Plan) → Sound plan → (i : ℕ) → There plan i → Depth plan i (depthOf plan i)
 
 -- two answers that say the same are the same
 abbrev pub OneListing : Type 0

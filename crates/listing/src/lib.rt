@@ -6,7 +6,7 @@ ghost use mathlib.Core.List.{_++_};
 ghost use Prim.Native.Nat.{_≤_};
 ghost use lib.Dec.{leb};
 ghost use lib.ListN.{length, take, drop};
-ghost use Rattle.rules.specs.Check.{fits};
+ghost use Rattle.rules.specs.Check.{isFit};
 ghost use Rattle.listing.specs.Text.{acceptedText, refusedText, text, said, listed, outAfter};
 ghost use Rattle.listing.specs.Page.{Put};
 
@@ -70,7 +70,7 @@ fn put_text(page: &mut [u8; 4096], bytes: &[u8]) -> usize
 
 // Node count, node lines and slot lines.
 fn put_accepted(page: &mut [u8; 4096], bytes: &[u8], plan: Plan) -> usize
-    requires { ⌜ (fits plan ≡ true) × (length (acceptedText (now bytes) plan) ≤ 4096) ⌝ }
+    requires { ⌜ (isFit plan ≡ true) × (length (acceptedText (now bytes) plan) ≤ 4096) ⌝ }
     ensures { λ r. ⌜ Put (now (page .entry)) 0 (acceptedText (now (bytes .entry)) plan) r (now (page .exit)) ⌝ }
 {
     let next = pieces::put(page, 0, b"accepted ");

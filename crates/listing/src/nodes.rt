@@ -75,7 +75,7 @@ fn depth_of(plan: Plan, i: usize) -> u64
         let parent = plans::node_at(plan, at).parent;
         match parent {
             Parent::Supply(_) => return depth,
-            Parent::Node(h) => at = plans::wide(h),
+            Parent::Node(h) => at = basics::wide(h),
         }
     }
     depth

@@ -4,9 +4,9 @@ ghost use mathlib.Core.Bool.{true};
 ghost use mathlib.Core.List.{_∷_, _++_};
 ghost use Prim.Native.Nat.{_+_, _*_, _<_, _≤_};
 ghost use lib.ListN.{length, drop};
-ghost use Rattle.ticks.specs.Times.{isFit, begins};
+ghost use Rattle.ticks.specs.Times.{isFit as isFitTick, begins};
 ghost use Rattle.plans.specs.Sound.{sound};
-ghost use Rattle.rules.specs.Check.{fits};
+ghost use Rattle.rules.specs.Check.{isFit};
 ghost use Rattle.layout.specs.Layout.{lays};
 ghost use Rattle.listing.specs.Text.{answers, answerText, answerPart, slotLine};
 ghost use Rattle.listing.specs.Page.{Put};
@@ -17,7 +17,7 @@ use ticks::Tick;
 
 // A line for each of the first eight slots.
 pub fn put_slots(page: &mut [u8; 4096], at: usize, plan: Plan) -> usize
-    requires { ⌜ (fits plan ≡ true) × (at + length (lays (slotLine plan (answers plan)) 8) ≤ 4096) ⌝ }
+    requires { ⌜ (isFit plan ≡ true) × (at + length (lays (slotLine plan (answers plan)) 8) ≤ 4096) ⌝ }
     ensures { λ r. ⌜ Put (now (page .entry)) at (lays (slotLine plan (answers plan)) 8) r (now (page .exit)) ⌝ }
 {
     let mut grants = [255u8; 64];
@@ -27,7 +27,7 @@ pub fn put_slots(page: &mut [u8; 4096], at: usize, plan: Plan) -> usize
 
 // The answers of the first eight slots from a fresh start, slot by slot.
 fn give(plan: Plan, grants: &mut [u8; 64])
-    requires { ⌜ fits plan ≡ true ⌝ }
+    requires { ⌜ isFit plan ≡ true ⌝ }
     ensures { λ r. ⌜ now (grants .exit) ≡ answers plan ++ drop (8 * plan .cores) (now (grants .entry)) ⌝ }
 {
     let fresh = dispatch::fresh(plan);
@@ -61,7 +61,7 @@ fn put_slot(page: &mut [u8; 4096], at: usize, plan: Plan, grants: [u8; 64], n: u
 
 // When slot n begins.
 fn start_of(tick: Tick, n: usize) -> u64
-    requires { ⌜ (isFit tick ≡ true) × (n < 8) ⌝ }
+    requires { ⌜ (isFitTick tick ≡ true) × (n < 8) ⌝ }
     ensures { λ r. ⌜ r ≡ begins tick n ⌝ }
 {
     match ticks::start(tick, n as u64) {

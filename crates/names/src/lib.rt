@@ -82,7 +82,7 @@ fn check_name(s: &[u8], i: usize) -> Answer
 fn is_length(b: u8) -> bool
     ensures { λ r. ⌜ r ≡ isLength b ⌝ }
 {
-    plans::both(1 <= b, b <= 32)
+    basics::both(1 <= b, b <= 32)
 }
 
 fn check_letters(s: &[u8], k: usize, n: usize) -> Answer
@@ -108,7 +108,7 @@ fn check_letter(s: &[u8], at: usize) -> Answer
     let Answer::Accepted = there else {
         return there;
     };
-    answers::tested(plans::both(33 <= b, b <= 126), 8, at)
+    answers::tested(basics::both(33 <= b, b <= 126), 8, at)
 }
 
 // Whether name i is none of the earlier ones.

@@ -20,7 +20,7 @@ pub fn is_plan(xs: &[u32]) -> bool
     if xs.len() != 404 {
         return false;
     }
-    plans::both(are_supplies(xs), are_nodes(xs))
+    basics::both(are_supplies(xs), are_nodes(xs))
 }
 
 fn are_supplies(xs: &[u32]) -> bool
@@ -56,16 +56,16 @@ fn is_type(xs: &[u32], k: usize) -> bool
     requires { ⌜ k + 2 ≤ length (now xs) ⌝ }
     ensures { λ r. ⌜ r ≡ isType (now (xs .entry)) k ⌝ }
 {
-    plans::both(xs[k] <= 65535, xs[k + 1] <= 65535)
+    basics::both(xs[k] <= 65535, xs[k + 1] <= 65535)
 }
 
 fn is_node(xs: &[u32], k: usize) -> bool
     requires { ⌜ k + 6 ≤ length (now xs) ⌝ }
     ensures { λ r. ⌜ r ≡ isNode (now (xs .entry)) k ⌝ }
 {
-    plans::both(
-        plans::both(xs[k] <= 2, xs[k + 1] <= 255),
-        plans::both(is_type(xs, k + 2), is_type(xs, k + 4)),
+    basics::both(
+        basics::both(xs[k] <= 2, xs[k + 1] <= 255),
+        basics::both(is_type(xs, k + 2), is_type(xs, k + 4)),
     )
 }
 

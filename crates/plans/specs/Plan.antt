@@ -40,6 +40,10 @@ nodeAt plan i = cond (ltb i 64) (getD (plan .nodes) i zeroNode) zeroNode
 unfoldable pub supplyAt : Plan → ℕ → SlotType
 supplyAt plan i = cond (ltb i 8) (getD (plan .supplies) i zeroType) zeroType
 
+-- node i is there
+abbrev pub There : Plan → ℕ → Type 0
+There plan i = i < plan .size
+
 -- what a node's entry says
 abbrev pub parentOf : Plan → ℕ → Parent
 parentOf plan i = nodeAt plan i .parent

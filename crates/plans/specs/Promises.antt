@@ -3,7 +3,7 @@ use Prim.Native.Nat.{ℕ, _<_}
 use mathlib.Core.Bool.{true}
 use mathlib.Core.Logic.{_↔_}
 use mathlib.Core.Path.{_≡_}
-use Rattle.plans.specs.Plan.{supplyAt, nodeAt}
+use Rattle.plans.specs.Plan.{There, supplyAt, nodeAt}
 use Rattle.plans.specs.Sound.{Sound, sound}
 use Rattle.plans.specs.declared.Plan.{Plan}
 
@@ -17,7 +17,7 @@ pub record Agree (a b : Plan) : Type 0 where
   pub cores : a .cores ≡ b .cores
   pub size : a .size ≡ b .size
   pub supplies : (s : ℕ) → s < a .cores → supplyAt a s ≡ supplyAt b s
-  pub nodes : (i : ℕ) → i < a .size → nodeAt a i ≡ nodeAt b i
+  pub nodes : (i : ℕ) → There a i → nodeAt a i ≡ nodeAt b i
 
 -- 01: "unused entries of a plan value are zeros and ignored"
 abbrev pub UnusedIgnored : Type 0

@@ -6,7 +6,7 @@ use mathlib.Core.Path.{_≡_}
 use lib.Dec.{leb, ltb}
 use Rattle.ticks.specs.Times.{isFit}
 use Rattle.meaning.specs.Types.{wellFormed}
-use Rattle.plans.specs.Plan.{supplyAt, parentOf, wantedOf, servedOf, isHost}
+use Rattle.plans.specs.Plan.{There, supplyAt, parentOf, wantedOf, servedOf, isHost}
 use Rattle.plans.specs.declared.Parent.{Parent}
 use Rattle.plans.specs.declared.Parent.the-variants.{Supply, Node as Under}
 use Rattle.plans.specs.declared.Plan.{Plan}
@@ -29,10 +29,10 @@ pub record Sound (plan : Plan) : Type 0 where
   pub sixty-four-nodes : plan .size ≤ 64
   pub tick : isFit (plan .tick) ≡ true
   pub supplies : (s : ℕ) → s < plan .cores → wellFormed (supplyAt plan s) ≡ true
-  pub wanted : (i : ℕ) → i < plan .size → wellFormed (wantedOf plan i) ≡ true
-  pub served : (i : ℕ) → i < plan .size → wellFormed (servedOf plan i) ≡ true
-  pub parents : (i : ℕ) → i < plan .size → Allowed plan i (parentOf plan i)
-  pub depths : (i d : ℕ) → i < plan .size → Depth plan i d → d ≤ 8
+  pub wanted : (i : ℕ) → There plan i → wellFormed (wantedOf plan i) ≡ true
+  pub served : (i : ℕ) → There plan i → wellFormed (servedOf plan i) ≡ true
+  pub parents : (i : ℕ) → There plan i → Allowed plan i (parentOf plan i)
+  pub depths : (i d : ℕ) → There plan i → Depth plan i d → d ≤ 8
 
 -- whether a test holds of every number below n
 unfoldable pub all : (ℕ → Bool) → ℕ → Bool
@@ -46,11 +46,12 @@ allows plan i (Under h) = ltb h i && isHost plan h
 unfoldable pub parentAllowed : Plan → ℕ → Bool
 parentAllowed plan i = allows plan i (parentOf plan i)
 
--- whether node i's depth is at most k: there is a supply within k steps up
+-- whether a parent is a supply, or else a host of which the test holds
 unfoldable pub upTo : (ℕ → Bool) → Parent → Bool
 upTo f (Supply s) = true
 upTo f (Under h) = f h
 
+-- whether node i's depth is at most k: there is a supply within k steps up
 unfoldable pub within : Plan → ℕ → ℕ → Bool
 within plan zero i = false
 within plan (suc k) i = upTo (within plan k) (parentOf plan i)

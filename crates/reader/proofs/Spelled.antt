@@ -4,7 +4,7 @@ use mathlib.Core.Bool.{true}
 use mathlib.Core.List.{List}
 use mathlib.Core.Path.{_≡_, refl, sym, ap, _∙_}
 use native.Mathlib.Omega.{arith}
-use Rattle.ticks.specs.Times.{isFit}
+use Rattle.ticks.specs.Times.{isFit as isFitTick}
 use Rattle.meaning.specs.Types.{wellFormed}
 use Rattle.answers.specs.declared.Answer.the-variants.{Accepted, Refused}
 use Rattle.answers.proofs.Laws.{first-accepted-left, first-accepted-right, accepts-true, accepts-false}
@@ -12,7 +12,7 @@ use Rattle.plans.specs.Plan.{zeroPlan}
 use Rattle.plans.specs.Sound.{soundSupply, soundNode, sound}
 use Rattle.plans.proofs.All.{all-true}
 use Rattle.plans.proofs.Kept.{counts-true}
-use Rattle.rules.specs.Check.{rules, checked, fits}
+use Rattle.rules.specs.Check.{rules, checked, isFit}
 use Rattle.decode.specs.Positions.{coresOf, sizeOf}
 use Rattle.decode.specs.Decode.{supplyOf, nodeOf, planOf}
 use Rattle.decode.proofs.Entries.{supply-spelled, node-spelled}
@@ -52,7 +52,7 @@ module _ (s : List ℕ) (h : BytesKept s) where
 
   -- bytes that keep 1 to 10 spell a sound value
   pub spelled-sound : sound (planOf s) ≡ true
-  unfolding sound planOf isFit
+  unfolding sound planOf isFitTick
   spelled-sound =
       rw (
         counts-true (coresOf s) 8 some-core eight-cores,
@@ -64,8 +64,8 @@ module _ (s : List ℕ) (h : BytesKept s) where
       )
 
 -- where a read is accepted, the value that the bytes spell passes the test of what fits
-pub accepted-fits : (s : List ℕ) → readAnswer s ≡ Accepted → fits (planOf s) ≡ true
-unfolding readAnswer fits checked
+pub accepted-fits : (s : List ℕ) → readAnswer s ≡ Accepted → isFit (planOf s) ≡ true
+unfolding readAnswer isFit checked
 accepted-fits s e =
     let kept = bytes-kept s .0 (first-accepted-left (checkBytes s) (rules (planOf s)) e) in
     rw (spelled-sound s kept, first-accepted-right (checkBytes s) (rules (planOf s)) e) (sym (accepts-true Accepted refl))

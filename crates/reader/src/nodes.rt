@@ -89,7 +89,7 @@ fn check_parent(s: &[u8], plan: Plan, i: usize, k: usize) -> Answer
 fn is_allowed(plan: Plan, i: usize, b: u8) -> bool
     ensures { λ r. ⌜ r ≡ (isNamed (parentNamed b) && parentAllowed plan i) ⌝ }
 {
-    plans::both(
+    basics::both(
         decode::is_named(decode::parent_named(b)),
         plans::is_parent_allowed(plan, i),
     )

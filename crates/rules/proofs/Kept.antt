@@ -11,7 +11,7 @@ use Rattle.plans.specs.declared.Plan.{Plan}
 use Rattle.plans.proofs.Kept.{sound-exactly}
 use Rattle.rules.specs.Fit.{Fit}
 use Rattle.rules.specs.Broken.{Breach, number, place, Broken, rank, Earlier, FirstBroken}
-use Rattle.rules.specs.Check.{rules, checked, fits}
+use Rattle.rules.specs.Check.{rules, checked, isFit}
 use Rattle.rules.specs.Promises.{FitsExactly, FirstExactly}
 use Rattle.rules.proofs.KeptOrder.{Refuses, NoneBefore, answer-accepted, accepted-none, answer-first, refused-first}
 use Rattle.rules.proofs.KeptTests.{tested-broken}
@@ -77,8 +77,8 @@ first-exactly plan sound r k = (
 )
 
 -- a value that the test takes fits
-fits-fit : (plan : Plan) → fits plan ≡ true → Fit plan
-unfolding fits checked accepts
+fits-fit : (plan : Plan) → isFit plan ≡ true → Fit plan
+unfolding isFit checked accepts
 fits-fit plan e = go (sound plan) refl e
   where
     go : (b : Bool) → sound plan ≡ b → accepts (cond b (rules plan) (Refused 16 nowhere)) ≡ true → Fit plan
@@ -88,8 +88,8 @@ fits-fit plan e = go (sound plan) refl e
     go false s h = absurd (false≢true h)
 
 -- and the test takes a value that fits
-fit-fits : (plan : Plan) → Fit plan → fits plan ≡ true
-unfolding fits checked accepts
+fit-fits : (plan : Plan) → Fit plan → isFit plan ≡ true
+unfolding isFit checked accepts
 fit-fits plan fit = rw (sound-exactly plan .1 (fit .sound), unbroken-accepted plan (fit .sound) (fit-unbroken plan fit))
 
 -- a value fits exactly when it keeps the rules

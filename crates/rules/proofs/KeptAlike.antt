@@ -13,7 +13,7 @@ use Rattle.plans.specs.declared.Parent.{Parent}
 use Rattle.plans.specs.declared.Parent.the-variants.{Supply, Node as Under}
 use Rattle.plans.specs.declared.Plan.{Plan}
 use Rattle.plans.proofs.Parents.{supply-there, host-there}
-use Rattle.rules.specs.Fit.{sumTo, mostTo, childPeriod, longest, load, loadTo, side, Child}
+use Rattle.rules.specs.Fit.{sumTo, mostTo, childPeriod, longest, load, loadTo, owes, side, Child}
 use Rattle.rules.specs.Broken.{Breach, eleven, twelve, thirteen, fourteen, Broken}
 
 -- a fold over the first n values reads no others
@@ -78,4 +78,4 @@ module _ (a b : Plan) (agree : Agree a b) (sound : Sound a) where
       (c, (j, l, e, λ k. odds (subst₂ (λ n m. (n .served .t % m .served .t ≡ 0) ⊎ (m .served .t % n .served .t ≡ 0)) later earlier k)))
   broken-alike (fourteen x i) h =
       let c = child-alike x i (h .0) in
-      (c, omega (arith, h .1, loads-alike x (suc i) (c .there), ap₂ (λ own m. own .c * (m / own .t)) (own-alike x i c) (longest-alike x)))
+      (c, omega (arith, h .1, loads-alike x (suc i) (c .there), ap₂ owes (own-alike x i c) (longest-alike x)))

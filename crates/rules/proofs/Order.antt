@@ -14,7 +14,7 @@ use Rattle.plans.specs.Sound.{sound}
 use Rattle.plans.specs.declared.Parent.the-variants.{Supply, Node as Under}
 use Rattle.plans.specs.declared.Plan.{Plan}
 use Rattle.plans.proofs.Kept.{sound-kept}
-use Rattle.rules.specs.Check.{checkParent, checkSupply, checkHost, rules, checked, fits}
+use Rattle.rules.specs.Check.{checkParent, checkSupply, checkHost, rules, checked, isFit}
 
 module _ (plan : Plan) (kept : sound plan ≡ true) where
   module _ (s : ℕ) (l : s < plan .cores) where
@@ -69,6 +69,6 @@ module _ (plan : Plan) (b : Bool) (is : b ≡ sound plan) where
   sound-checked a h e = rw (passed-sound h) e
 
 -- a value fits where its check is accepted
-pub fits-read : (plan : Plan) (a : Answer) (r : Bool) → a ≡ checked plan → r ≡ accepts a → r ≡ fits plan
-unfolding fits
+pub fits-read : (plan : Plan) (a : Answer) (r : Bool) → a ≡ checked plan → r ≡ accepts a → r ≡ isFit plan
+unfolding isFit
 fits-read plan a r e h = rw (h, e)

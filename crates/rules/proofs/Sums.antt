@@ -15,7 +15,7 @@ use Rattle.plans.specs.Sound.{sound}
 use Rattle.plans.specs.declared.Parent.{Parent}
 use Rattle.plans.specs.declared.Plan.{Plan}
 use Rattle.plans.proofs.Kept.{sound-kept}
-use Rattle.rules.specs.Fit.{sumTo, mostTo, childPeriod, longest, load, loadTo, side}
+use Rattle.rules.specs.Fit.{sumTo, mostTo, childPeriod, longest, load, loadTo, owes, side}
 use Rattle.rules.proofs.Formed.{in-slots-most}
 
 module _ (f : ℕ → ℕ) (bound : ℕ) where
@@ -75,7 +75,7 @@ module _ (plan : Plan) (x : Parent) where
 
   -- the parent's side is what its own type comes to in M slots
   pub side-read : (own : SlotType) (m r : ℕ) → own ≡ ownType plan x → m ≡ longest plan x → r ≡ own .c * (m / own .t) → r ≡ side plan x
-  unfolding side
+  unfolding side owes
   side-read own m r o h e = rw (e, o, h)
 
   module _ (kept : sound plan ≡ true) where

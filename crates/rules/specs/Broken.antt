@@ -3,6 +3,7 @@ use Prim.Native.Nat.{ℕ, suc, _<_}
 use mathlib.Core.List.{List, [], _∷_}
 use mathlib.Core.Logic.{_⊎_}
 use mathlib.Core.Path.{_≡_}
+use Rattle.plans.specs.Plan.{There}
 use Rattle.plans.specs.declared.Parent.{Parent}
 use Rattle.plans.specs.declared.Parent.the-variants.{Supply, Node as Under}
 use Rattle.plans.specs.declared.Plan.{Plan}
@@ -30,7 +31,7 @@ place (fourteen x i) = i
 -- 01: "rule 11 broken: node"; "lowest such child"; "lowest child at odds with an earlier sibling"; "lowest child at which the running sum, in node
 -- order, passes the parent's side". That it is the lowest is the order's to say.
 abbrev pub Broken : Plan → Breach → Type 0
-Broken plan (eleven i) = (i < plan .size) × (Rule11 plan i → ⊥)
+Broken plan (eleven i) = There plan i × (Rule11 plan i → ⊥)
 Broken plan (twelve x i) = Child plan x i × (Rule12 plan x i → ⊥)
 Broken plan (thirteen x i) = Child plan x i × ((j : ℕ) × (j < i) × Child plan x j × (Rule13 plan i j → ⊥))
 Broken plan (fourteen x i) = Child plan x i × (side plan x < loadTo plan x (suc i))

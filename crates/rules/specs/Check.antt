@@ -64,5 +64,5 @@ unfoldable pub checked : Plan → Answer
 checked plan = cond (sound plan) (rules plan) (Refused 16 nowhere)
 
 -- whether a value fits
-unfoldable pub fits : Plan → Bool
-fits plan = accepts (checked plan)
+unfoldable pub isFit : Plan → Bool
+isFit plan = accepts (checked plan)

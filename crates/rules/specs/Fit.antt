@@ -1,12 +1,13 @@
 -- What it is for a plan value to fit: document 01, "Rules beyond the bytes", on top of soundness (2 to 7). Assumes nothing.
-use Prim.Native.Nat.{ℕ, zero, suc, _+_, _*_, _/_, _%_, _≤_, _<_, max}
+use Prim.Native.Nat.{ℕ, zero, suc, _+_, _*_, _/_, _%_, _≤_, max}
 use mathlib.Core.Bool.{cond}
 use mathlib.Core.Logic.{_⊎_}
 use mathlib.Core.Path.{_≡_}
 use Rattle.meaning.specs.Types.{StandsIn}
+use Rattle.meaning.specs.declared.SlotType.{SlotType}
 use Rattle.meaning.specs.declared.Kind.{Kind}
 use Rattle.meaning.specs.declared.Kind.the-variants.{Aligned}
-use Rattle.plans.specs.Plan.{parentOf, kindOf, wantedOf, servedOf, wantedAs, ownType, isChild}
+use Rattle.plans.specs.Plan.{There, parentOf, kindOf, wantedOf, servedOf, wantedAs, ownType, isChild}
 use Rattle.plans.specs.Sound.{Sound}
 use Rattle.plans.specs.declared.Parent.{Parent}
 use Rattle.plans.specs.declared.Plan.{Plan}
@@ -36,13 +37,17 @@ load plan x m i = cond (isChild plan x i) (servedOf plan i .c * (m / servedOf pl
 unfoldable pub loadTo : Plan → Parent → ℕ → ℕ
 loadTo plan x k = sumTo (load plan x (longest plan x)) k
 
--- the parent's own C·(M/T)
+-- what a parent of type (C, T) owes in m slots: C·(m/T)
+unfoldable pub owes : SlotType → ℕ → ℕ
+owes own m = own .c * (m / own .t)
+
+-- the parent's side: what it owes in M slots
 unfoldable pub side : Plan → Parent → ℕ
-side plan x = ownType plan x .c * (longest plan x / ownType plan x .t)
+side plan x = owes (ownType plan x) (longest plan x)
 
 -- node i is there, and a child of x
 pub record Child (plan : Plan) (x : Parent) (i : ℕ) : Type 0 where
-  pub there : i < plan .size
+  pub there : There plan i
   pub under : parentOf plan i ≡ x
 
 -- 01, rules 11 to 14
@@ -61,7 +66,7 @@ Rule14 plan x = loadTo plan x (plan .size) ≤ side plan x
 -- a plan value that keeps 2 to 7 and 11 to 14
 pub record Fit (plan : Plan) : Type 0 where
   pub sound : Sound plan
-  pub rule11 : (i : ℕ) → i < plan .size → Rule11 plan i
+  pub rule11 : (i : ℕ) → There plan i → Rule11 plan i
   pub rule12 : (x : Parent) (i : ℕ) → Child plan x i → Rule12 plan x i
   pub rule13 : (x : Parent) (i j : ℕ) → Child plan x i → Child plan x j → Rule13 plan i j
   pub rule14 : (x : Parent) → Rule14 plan x

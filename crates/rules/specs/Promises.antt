@@ -11,11 +11,11 @@ use Rattle.plans.specs.Sound.{Sound}
 use Rattle.plans.specs.declared.Plan.{Plan}
 use Rattle.rules.specs.Fit.{Fit}
 use Rattle.rules.specs.Broken.{Breach, FirstBroken, number, place}
-use Rattle.rules.specs.Check.{rules, checked, fits}
+use Rattle.rules.specs.Check.{rules, checked, isFit}
 
 -- 01: "A plan is accepted exactly when it keeps our written rules": on values
 abbrev pub FitsExactly : Type 0
-FitsExactly = (plan : Plan) → (fits plan ≡ true) ↔ Fit plan
+FitsExactly = (plan : Plan) → (isFit plan ≡ true) ↔ Fit plan
 
 -- a refusal is given exactly when it is that of the first breach
 abbrev pub FirstExactly : Type 0

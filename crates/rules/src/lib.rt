@@ -1,7 +1,7 @@
 // Rules 11 to 14 on a plan value: document 01, "Rules beyond the bytes" and the order of "Refusal numbers". Any value may be asked about.
 // Fit says what it is to keep them and Broken which breach comes first (specs/); the calls below are held to Check.
 ghost use mathlib.Core.Path.{_≡_};
-ghost use Rattle.rules.specs.Check.{checked, fits};
+ghost use Rattle.rules.specs.Check.{checked, isFit};
 
 mod loads;
 mod nodes;
@@ -15,7 +15,7 @@ const NOWHERE: usize = 18446744073709551615;
 
 // Whether a value fits.
 pub fn is_fit(plan: Plan) -> bool
-    ensures { λ r. ⌜ r ≡ fits plan ⌝ }
+    ensures { λ r. ⌜ r ≡ isFit plan ⌝ }
 {
     answers::is_accepted(check(plan))
 }

@@ -64,7 +64,7 @@ pub fn slot(tick: Tick, t: u64) -> Answer
 fn asked(tick: Tick, x: u64) -> Answer
     ensures { λ r. ⌜ said r ≡ timed tick x x ⌝ }
 {
-    let fit = fits(tick);
+    let fit = is_fit(tick);
     if !fit {
         return Answer::Unfit;
     }
@@ -94,7 +94,7 @@ fn within(v: u64) -> Answer
 }
 
 // Whether both numbers of a tick are in their range.
-pub fn fits(tick: Tick) -> bool
+pub fn is_fit(tick: Tick) -> bool
     ensures { λ r. ⌜ r ≡ isFit tick ⌝ }
 {
     let p = tick.p;

@@ -55,7 +55,7 @@ module _ (plan : Plan) (supply declines : ℕ → ℕ) where
   may (Supply s) n = bitOf (supply n) s
   may (Under h) n = charged h n
 
--- node i's core: the supply above it
-pub data Core (plan : Plan) : ℕ → ℕ → Type 0 where
-  top : {i s : ℕ} → parentOf plan i ≡ Supply s → Core plan i s
-  under : {i h s : ℕ} → parentOf plan i ≡ Under h → Core plan h s → Core plan i s
+-- node i is on core s: s is the supply above it
+pub data OnCore (plan : Plan) : ℕ → ℕ → Type 0 where
+  top : {i s : ℕ} → parentOf plan i ≡ Supply s → OnCore plan i s
+  under : {i h s : ℕ} → parentOf plan i ≡ Under h → OnCore plan h s → OnCore plan i s

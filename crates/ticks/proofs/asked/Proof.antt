@@ -5,8 +5,8 @@ use Rattle.ticks.proofs.Answers.{unfit, beyond, taken}
 use Rattle.ticks.proofs.asked.Statement.{statement}
 use Rattle.ticks.proofs.asked.Tie as tie
 
-fits-requires : tie.Need-fits-requires
-fits-requires c κs = search needs
+is-fit-requires : tie.Need-is-fit-requires
+is-fit-requires c κs = search needs
 
 returns : tie.Need-returns
 returns c = search (unfit, not-true)
@@ -18,4 +18,4 @@ returns-3 : tie.Need-returns-3
 returns-3 c = search (taken, not-false)
 
 pub asked-spec : {M : Type 1} → statement M
-asked-spec = tie.close (tie.spec fits-requires returns returns-2 returns-3)
+asked-spec = tie.close (tie.spec is-fit-requires returns returns-2 returns-3)

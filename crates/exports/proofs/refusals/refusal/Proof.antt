@@ -1,6 +1,6 @@
 -- `exports::refusals::refusal` meets its contract: one law a return. Assumes nothing.
 use borrow.Author.Needs.{needs}
-use Rattle.exports.proofs.Refusing.{refusal-within, refusal-nowhere}
+use Rattle.exports.proofs.Refusing.{refusal-within, refusal-placeless}
 use Rattle.exports.proofs.refusals.refusal.Statement.{statement}
 use Rattle.exports.proofs.refusals.refusal.Tie as tie
 
@@ -17,7 +17,7 @@ returns : tie.Need-returns
 returns c = search refusal-within
 
 returns-2 : tie.Need-returns-2
-returns-2 c = search refusal-nowhere
+returns-2 c = search refusal-placeless
 
 pub refusal-spec : {M : Type 1} → statement M
 refusal-spec = tie.close (tie.spec mul-result add-result add-result-2 returns returns-2)

@@ -16,9 +16,7 @@ use Rattle.plans.proofs.Entries.{same-self, same-equal}
 use Rattle.plans.specs.Plan.{same}
 use Rattle.plans.specs.declared.Parent.{Parent}
 use Rattle.dispatch.specs.View.{View, bitOf}
-use Rattle.dispatch.specs.Choice.{eligible, prefer, consider, chooseTo, choose, Chosen}
-use Rattle.dispatch.specs.declared.Choice.{Choice}
-use Rattle.dispatch.specs.declared.Choice.the-variants.{Nobody, Child}
+use Rattle.dispatch.specs.Choice.{Pick, nobody, just, eligible, prefer, consider, chooseTo, choose, Chosen}
 
 -- a node i comes before a node j: it has the smaller period, or the same and no higher number
 abbrev Before : View → ℕ → ℕ → Type 0
@@ -60,31 +58,31 @@ module _ (v : View) (left : List ℕ) (declines : ℕ) (x : Parent) where
     before : (j : ℕ) → j < k → First i j
 
   -- what a choice among the first k nodes says
-  data Told (k : ℕ) : Choice → Type 0 where
-    none : ((j : ℕ) → j < k → eligible v left declines x j ≡ false) → Told k Nobody
-    one : (i : ℕ) → ChosenTo k i → Told k (Child i)
+  data Told (k : ℕ) : Pick → Type 0 where
+    none : ((j : ℕ) → j < k → eligible v left declines x j ≡ false) → Told k nobody
+    one : (i : ℕ) → ChosenTo k i → Told k (just i)
 
   module _ (k : ℕ) where
     -- node k is taken where it may be and comes before the others that may
-    newcomer : eligible v left declines x k ≡ true → ((j : ℕ) → j < k → First k j) → Told (suc k) (Child k)
+    newcomer : eligible v left declines x k ≡ true → ((j : ℕ) → j < k → First k j) → Told (suc k) (just k)
     newcomer e before = one k (record { there = omega arith; may = e; before = below-suc (First k) k before (λ _. inr (refl, omega arith)) })
 
     -- the one to take stays so where it comes before node k
-    incumbent : (i : ℕ) → ChosenTo k i → First i k → Told (suc k) (Child i)
+    incumbent : (i : ℕ) → ChosenTo k i → First i k → Told (suc k) (just i)
     incumbent i c here = one i (record { there = omega (arith, c .there); may = c .may; before = below-suc (First i) k (c .before) here })
 
     -- so the smaller period decides between the two
     between : eligible v left declines x k ≡ true → (i : ℕ) → ChosenTo k i → (b : Bool) → ltb (v .t k) (v .t i) ≡ b →
-        Told (suc k) (cond b (Child k) (Child i))
+        Told (suc k) (cond b (just k) (just i))
     between e i c true h = newcomer e (λ j l m. inl (before-period v i j k (c .before j l m) (ltb-true (v .t k) (v .t i) h)))
     between e i c false h = incumbent i c (λ _. before-later v i k (ltb-false (v .t k) (v .t i) h) (omega (arith, c .there)))
 
     -- with node k considered, the choice among the first k + 1 nodes
-    told-more : (best : Choice) → Told k best → Told (suc k) (consider v left declines x best k)
+    told-more : (best : Pick) → Told k best → Told (suc k) (consider v left declines x best k)
     unfolding consider prefer
     told-more best t = go (eligible v left declines x k) refl best t
       where
-        go : (b : Bool) → eligible v left declines x k ≡ b → (best : Choice) → Told k best → Told (suc k) (cond b (prefer v best k) best)
+        go : (b : Bool) → eligible v left declines x k ≡ b → (best : Pick) → Told k best → Told (suc k) (cond b (prefer v best k) best)
         go false e best (none h) = none (below-suc (λ j. eligible v left declines x j ≡ false) k h e)
         go false e best (one i c) = incumbent i c (λ m. absurd (true≢false (sym m ∙ e)))
         go true e best (none h) = newcomer e (λ j l m. absurd (true≢false (sym m ∙ h j l)))
@@ -97,50 +95,50 @@ module _ (v : View) (left : List ℕ) (declines : ℕ) (x : Parent) where
   told (suc k) = told-more k (chooseTo v left declines x k) (told k)
 
   -- a told child is the one to take
-  told-child : (k : ℕ) {i : ℕ} → Told k (Child i) → ChosenTo k i
+  told-child : (k : ℕ) {i : ℕ} → Told k (just i) → ChosenTo k i
   told-child k (one i c) = c
 
   -- where nobody is told, nobody may be taken
-  told-nobody : (k : ℕ) → Told k Nobody → (j : ℕ) → j < k → eligible v left declines x j ≡ false
+  told-nobody : (k : ℕ) → Told k nobody → (j : ℕ) → j < k → eligible v left declines x j ≡ false
   told-nobody k (none h) = h
 
   -- the choice is what document 01's sentence says
-  pub choice-chosen : (i : ℕ) → choose v left declines x ≡ Child i → Chosen v left declines x i
+  pub choice-chosen : (i : ℕ) → choose v left declines x ≡ just i → Chosen v left declines x i
   unfolding choose
   choice-chosen i e =
       let c = told-child (v .size) (rw e at (told (v .size))) in
       record { there = c .there; may = c .may; before = c .before }
 
   -- where nobody is chosen, nobody may be taken
-  pub choice-none : choose v left declines x ≡ Nobody → (j : ℕ) → j < v .size → eligible v left declines x j ≡ false
+  pub choice-none : choose v left declines x ≡ nobody → (j : ℕ) → j < v .size → eligible v left declines x j ≡ false
   unfolding choose
   choice-none e = told-nobody (v .size) (rw e at (told (v .size)))
 
   -- what the sentence names is the choice
-  pub chosen-choice : (i : ℕ) → Chosen v left declines x i → choose v left declines x ≡ Child i
+  pub chosen-choice : (i : ℕ) → Chosen v left declines x i → choose v left declines x ≡ just i
   chosen-choice i c = go (choose v left declines x) refl
     where
-      go : (w : Choice) → choose v left declines x ≡ w → w ≡ Child i
-      go Nobody e = absurd (true≢false (sym (c .may) ∙ choice-none e i (c .there)))
-      go (Child j) e =
+      go : (w : Pick) → choose v left declines x ≡ w → w ≡ just i
+      go nobody e = absurd (true≢false (sym (c .may) ∙ choice-none e i (c .there)))
+      go (just j) e =
           let d = choice-chosen j e in
-          ap Child (before-both v j i (d .before i (c .there) (c .may)) (c .before j (d .there) (d .may)))
+          ap just (before-both v j i (d .before i (c .there) (c .may)) (c .before j (d .there) (d .may)))
 
   -- where nobody may be taken, nobody is chosen
-  pub none-choice : ((j : ℕ) → j < v .size → eligible v left declines x j ≡ false) → choose v left declines x ≡ Nobody
+  pub none-choice : ((j : ℕ) → j < v .size → eligible v left declines x j ≡ false) → choose v left declines x ≡ nobody
   none-choice h = go (choose v left declines x) refl
     where
-      go : (w : Choice) → choose v left declines x ≡ w → w ≡ Nobody
-      go Nobody e = refl
-      go (Child j) e = let d = choice-chosen j e in absurd (true≢false (sym (d .may) ∙ h j (d .there)))
+      go : (w : Pick) → choose v left declines x ≡ w → w ≡ nobody
+      go nobody e = refl
+      go (just j) e = let d = choice-chosen j e in absurd (true≢false (sym (d .may) ∙ h j (d .there)))
 
   -- where somebody may be taken, somebody is chosen
-  pub some-choice : (i : ℕ) → i < v .size → eligible v left declines x i ≡ true → (j : ℕ) × (choose v left declines x ≡ Child j)
+  pub some-choice : (i : ℕ) → i < v .size → eligible v left declines x i ≡ true → (j : ℕ) × (choose v left declines x ≡ just j)
   some-choice i l may = go (choose v left declines x) refl
     where
-      go : (w : Choice) → choose v left declines x ≡ w → (j : ℕ) × (choose v left declines x ≡ Child j)
-      go Nobody e = absurd (true≢false (sym may ∙ choice-none e i l))
-      go (Child j) e = (j, e)
+      go : (w : Pick) → choose v left declines x ≡ w → (j : ℕ) × (choose v left declines x ≡ just j)
+      go nobody e = absurd (true≢false (sym may ∙ choice-none e i l))
+      go (just j) e = (j, e)
 
   -- a child of x with slots left may be taken, if it is no leaf that declines
   pub eligible-child : (i : ℕ) → v .parent i ≡ x → 0 < getD left i 0 → (v .leaf i && bitOf declines i) ≡ false → eligible v left declines x i ≡ true
@@ -165,7 +163,7 @@ module _ (v : View) (left : List ℕ) (declines : ℕ) (x : Parent) where
         let h = right-true (ltb 0 (getD left i 0)) _ (right-true (same (v .parent i) x) _ may) in
         rw leaf at (not-true (v .leaf i && bitOf declines i) h)
 
-  module _ (i : ℕ) (e : choose v left declines x ≡ Child i) where
+  module _ (i : ℕ) (e : choose v left declines x ≡ just i) where
     -- the chosen node is there
     pub choice-below : i < v .size
     choice-below = choice-chosen i e .there

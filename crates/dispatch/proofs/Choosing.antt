@@ -15,7 +15,7 @@ use Rattle.plans.specs.declared.Parent.{Parent}
 use Rattle.plans.specs.declared.Node.{Node}
 use Rattle.plans.specs.declared.Plan.{Plan}
 use Rattle.dispatch.specs.View.{View, bitOf, isLeaf, servedT, viewOf}
-use Rattle.dispatch.specs.Choice.{eligible, prefer, consider, chooseTo, choose}
+use Rattle.dispatch.specs.Choice.{Pick, nobody, just, picked, eligible, prefer, consider, chooseTo, choose}
 use Rattle.dispatch.specs.declared.Choice.{Choice}
 use Rattle.dispatch.specs.declared.Choice.the-variants.{Nobody, Child}
 
@@ -62,25 +62,25 @@ module _ (plan : Plan) (left : List ℕ) (declines : ℕ) (x : Parent) (i : ℕ)
 
 module _ (plan : Plan) (best : Choice) (i : ℕ) where
   -- where nobody was chosen before it, a node is preferred
-  pub first-preferred : best ≡ Nobody → Child i ≡ prefer (viewOf plan) best i
+  pub first-preferred : best ≡ Nobody → just i ≡ prefer (viewOf plan) (picked best) i
   unfolding prefer
   first-preferred e = rw e
 
   module _ (j a b : ℕ) (e : best ≡ Child j) (here : a ≡ servedT plan i) (there : b ≡ servedT plan j) where
     -- and so is one with a smaller period than the choice before it
-    pub shorter-preferred : a < b → Child i ≡ prefer (viewOf plan) best i
+    pub shorter-preferred : a < b → just i ≡ prefer (viewOf plan) (picked best) i
     unfolding prefer
     shorter-preferred l = rw (e, lt-ltb (servedT plan i) (servedT plan j) (omega arith))
 
     -- one with the same or a longer period is not
-    pub earlier-kept : b ≤ a → Child j ≡ prefer (viewOf plan) best i
+    pub earlier-kept : b ≤ a → just j ≡ prefer (viewOf plan) (picked best) i
     unfolding prefer
     earlier-kept l = rw (e, le-ltb (servedT plan i) (servedT plan j) (omega arith))
 
 module _ (v : View) (left : List ℕ) (declines : ℕ) (x : Parent) where
-  module _ (best : Choice) (i : ℕ) (b : Bool) (may : b ≡ eligible v left declines x i) where
+  module _ (best : Pick) (i : ℕ) (b : Bool) (may : b ≡ eligible v left declines x i) where
     -- a node that may be taken is held against the choice before it
-    pub considered-taken : b ≡ true → (r : Choice) → r ≡ prefer v best i → r ≡ consider v left declines x best i
+    pub considered-taken : b ≡ true → (r : Pick) → r ≡ prefer v best i → r ≡ consider v left declines x best i
     unfolding consider
     considered-taken h r e = rw (sym may ∙ h, e)
 
@@ -90,13 +90,13 @@ module _ (v : View) (left : List ℕ) (declines : ℕ) (x : Parent) where
     considered-passed h = rw (sym may ∙ h)
 
   -- The loop over the nodes, whose invariant is (i ≤ size) × (best ≡ chooseTo v left declines x i). Before the first node:
-  pub choose-none : Nobody ≡ chooseTo v left declines x 0
+  pub choose-none : nobody ≡ chooseTo v left declines x 0
   unfolding chooseTo
   choose-none = refl
 
-  module _ (i : ℕ) (best : Choice) (e : best ≡ chooseTo v left declines x i) where
+  module _ (i : ℕ) (best : Pick) (e : best ≡ chooseTo v left declines x i) where
     -- one node more
-    pub choose-more : (r : Choice) → r ≡ consider v left declines x best i → r ≡ chooseTo v left declines x (i + 1)
+    pub choose-more : (r : Pick) → r ≡ consider v left declines x best i → r ≡ chooseTo v left declines x (i + 1)
     unfolding chooseTo
     choose-more r h = rw (add-one i, h, e)
 

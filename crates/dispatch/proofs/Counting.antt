@@ -1,11 +1,11 @@
 -- What the calls on counts answer: what a sound plan gives them, one law a return, and the laws of the loops over the nodes. Assumes nothing.
 use Prim.Native.Nat.{ℕ, _+_, _-_, _%_, _≤_, _<_}
-use mathlib.Core.Bool.{true, false}
+use mathlib.Core.Bool.{Bool, true, false}
 use mathlib.Core.List.{List}
 use mathlib.Core.Path.{_≡_, refl, sym, ap, _∙_}
-use lib.Dec.{leb}
+use lib.Dec.{leb, eqb}
 use lib.ListN.{getD, set, replicate}
-use borrow.Author.Tests.{leb-true, le-leb, lt-leb, eq-eqb, ne-eqb}
+use borrow.Author.Tests.{leb-true, le-leb, lt-leb}
 use native.Mathlib.Nat.{le-antisymm}
 use native.Mathlib.Numerals.{add-one}
 use native.Mathlib.Omega.{arith}
@@ -17,7 +17,7 @@ use Rattle.plans.specs.Sound.{all, sound}
 use Rattle.plans.specs.declared.Node.{Node}
 use Rattle.plans.specs.declared.Plan.{Plan}
 use Rattle.dispatch.specs.View.{View, servedC, servedT, viewOf}
-use Rattle.dispatch.specs.Slot.{refillOne, refillTo, refilled, charge}
+use Rattle.dispatch.specs.Slot.{due, refillOne, refillTo, refilled, charge}
 use Rattle.dispatch.specs.Run.{freshTo, freshLeft, leftWithin}
 
 module _ (plan : Plan) (keeps : sound plan ≡ true) where
@@ -49,16 +49,21 @@ pub charged-less : (left : List ℕ) (i : ℕ) → set left i (getD left i 0 - 1
 unfolding charge
 charged-less left i = refl
 
-module _ (plan : Plan) (n i : ℕ) (left : List ℕ) (m : Node) (e : m ≡ nodeAt plan i) where
-  -- a node whose period begins at slot n gets its served C
-  pub refill-due : n % m .served .t ≡ 0 → set left i (m .served .c) ≡ refillOne (viewOf plan) n left i
-  unfolding refillOne servedC servedT
-  refill-due h = rw (sym (ap (λ a. a .served .t) e), eq-eqb (n % m .served .t) 0 h, ap (λ a. a .served .c) e)
+-- a node is due at a multiple of its served period
+pub due-read : (plan : Plan) (n i : ℕ) (m : Node) → m ≡ nodeAt plan i → eqb (n % m .served .t) 0 ≡ due (viewOf plan) n i
+unfolding due servedT
+due-read plan n i m e = ap (λ a. eqb (n % a .served .t) 0) e
+
+module _ (plan : Plan) (n i : ℕ) (left : List ℕ) (b : Bool) (e : b ≡ due (viewOf plan) n i) where
+  -- a node that is due gets its served C
+  pub refill-due : b ≡ true → (m : Node) → m ≡ nodeAt plan i → set left i (m .served .c) ≡ refillOne (viewOf plan) n left i
+  unfolding refillOne servedC
+  refill-due h m read = rw (sym e ∙ h, ap (λ a. a .served .c) read)
 
   -- and any other keeps what it has
-  pub refill-kept : (n % m .served .t ≡ 0 → ⊥) → left ≡ refillOne (viewOf plan) n left i
-  unfolding refillOne servedT
-  refill-kept h = rw (sym (ap (λ a. a .served .t) e), ne-eqb (n % m .served .t) 0 h)
+  pub refill-kept : b ≡ false → left ≡ refillOne (viewOf plan) n left i
+  unfolding refillOne
+  refill-kept h = rw (sym e ∙ h)
 
 -- The loop of a refill, whose invariant is (i ≤ size) × (full ≡ refillTo v n left i). Before the first node:
 module _ (v : View) (n : ℕ) (left : List ℕ) where

@@ -11,14 +11,13 @@ use native.Mathlib.Omega.{arith}
 use Rattle.plans.specs.declared.Plan.{Plan}
 use Rattle.dispatch.proofs.Choices.{choice-chosen, choice-none, chosen-choice, none-choice}
 use Rattle.dispatch.proofs.SlotsDepth.{at-top, walk-enough}
+use Rattle.dispatch.proofs.Running.{course-one, grants-whole}
 use Rattle.dispatch.specs.View.{View, viewOf}
-use Rattle.dispatch.specs.Slot.{slot}
-use Rattle.dispatch.specs.Run.{Said, done, refused, said, outcome, Course, courseTo, course, stateBy, ran, stepped}
-use Rattle.dispatch.specs.Promises.{ChoiceExactly, EightLevels, RunsJoin, StepIsRun, OneOutcome}
+use Rattle.dispatch.specs.Slot.{SlotEnd, slot}
+use Rattle.dispatch.specs.Run.{Said, done, refused, said, Standing, outcome, Course, courseTo, course, ran, outAfter, stepped}
+use Rattle.dispatch.specs.Promises.{ChoiceExactly, EightLevels, RunsJoin, StepIsSlot, OneOutcome}
 use Rattle.dispatch.specs.declared.Outcome.{Outcome}
 use Rattle.dispatch.specs.declared.Outcome.the-variants.{Done, Beyond, Unfit, Misfit}
-use Rattle.dispatch.specs.declared.Served.{Served}
-use Rattle.dispatch.specs.declared.State.{State}
 
 -- the choice is the one that the sentence names, and nobody exactly when nobody may be taken
 pub choice-exactly : ChoiceExactly
@@ -66,26 +65,12 @@ unfolding after
 runs-join v cores n supplies declines supplies' declines' left alike =
     joined v cores n supplies declines supplies' declines' left alike (length supplies')
 
--- a run of one is one slot
-course-one : (plan : Plan) (state : State) (supplied declined : ℕ) →
-    let next : Served = slot (viewOf plan) (plan .cores) (state .clock) supplied declined (state .left) in
-    course plan state (supplied ∷ []) (declined ∷ []) ≡ record { left = next .left; answers = take (plan .cores) (next .grants) }
-unfolding course courseTo
-course-one plan state supplied declined = rw (add-zero (state .clock))
-
--- the state handed back is told by the counts alone
-state-by-counts : (o : Outcome) (state : State) (k : ℕ) (a b : Course) → a .left ≡ b .left → stateBy o state k a ≡ stateBy o state k b
-state-by-counts Done state k a b e = rw e
-state-by-counts Beyond state k a b e = refl
-state-by-counts Unfit state k a b e = refl
-state-by-counts Misfit state k a b e = refl
-
--- a step is a run of one
-pub step-is-run : StepIsRun
-unfolding stepped ran
-step-is-run plan state supplied declined =
+-- a step that is done is one slot
+pub step-is-slot : StepIsSlot
+unfolding stepped ran outAfter
+step-is-slot plan state supplied declined ends =
     let one = course-one plan state supplied declined in
-    (refl, state-by-counts (outcome plan state 1 1 (plan .cores)) state 1 _ _ (sym (ap (λ c. c .left) one)), λ ready. rw (ready, one))
+    rw (ends, one, grants-whole plan state supplied declined)
 
 -- the outcome that a saying tells
 outcomeOf : Said → Outcome

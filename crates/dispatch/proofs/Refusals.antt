@@ -22,9 +22,9 @@ use Rattle.plans.specs.declared.Plan.{Plan}
 use Rattle.rules.specs.Check.{rules, checked, isFit}
 use Rattle.dispatch.proofs.Counting.{size-most}
 use Rattle.dispatch.specs.View.{viewOf}
-use Rattle.dispatch.specs.Run.{freshLeft, started, leftWithin, ready, outcome}
+use Rattle.dispatch.specs.Run.{done, refused, said, Standing, standing, freshLeft, started, leftWithin, ready, roomy, inTime, outcome}
 use Rattle.dispatch.specs.declared.Outcome.{Outcome}
-use Rattle.dispatch.specs.declared.Outcome.the-variants.{Done, Beyond, Unfit, Misfit}
+use Rattle.dispatch.specs.declared.Outcome.the-variants.{Done}
 use Rattle.dispatch.specs.declared.State.{State}
 
 -- a plan value that fits is sound
@@ -38,7 +38,7 @@ fits-sound plan = go (sound plan)
 
 module _ (plan : Plan) (b : Bool) (fit : b ≡ isFit plan) where
   -- a plan value that does not fit is refused a fresh start
-  pub start-refused : b ≡ false → record { outcome = Unfit; state = record { clock = 0; left = replicate 64 0 } } ≡ started plan
+  pub start-refused : b ≡ false → record { outcome = refused 16; state = record { clock = 0; left = replicate 64 0 } } ≡ started plan
   unfolding started
   start-refused h = rw (sym fit ∙ h)
 
@@ -49,28 +49,28 @@ module _ (plan : Plan) (b : Bool) (fit : b ≡ isFit plan) where
 
     -- and gets one
     pub start-given : (left : List ℕ) → left ≡ freshLeft (viewOf plan) →
-        record { outcome = Done; state = record { clock = 0; left = left } } ≡ started plan
+        record { outcome = done; state = record { clock = 0; left = left } } ≡ started plan
     unfolding started
     start-given left e = rw (sym fit ∙ h, e)
 
   -- Whether plan value and state are fit. The plan is not:
   module _ (state : State) where
-    pub ready-unfit : b ≡ false → false ≡ ready plan state
+    pub ready-unfit : b ≡ false → false ≡ ready plan (standing state)
     unfolding ready
     ready-unfit h = rw (sym fit ∙ h)
 
     module _ (h : b ≡ true) where
       -- the clock is past its range
-      pub ready-late : 2 ^ 40 < state .clock → false ≡ ready plan state
+      pub ready-late : 2 ^ 40 < state .clock → false ≡ ready plan (standing state)
       unfolding ready
       ready-late l = rw (sym fit ∙ h, lt-leb (state .clock) (2 ^ 40) l)
 
       -- otherwise the counts decide
-      pub ready-counts : state .clock ≤ 2 ^ 40 → (r : Bool) → r ≡ all (leftWithin plan (state .left)) (plan .size) → r ≡ ready plan state
+      pub ready-counts : state .clock ≤ 2 ^ 40 → (r : Bool) → r ≡ all (leftWithin plan (state .left)) (plan .size) → r ≡ ready plan (standing state)
       unfolding ready
       ready-counts l r e = rw (sym fit ∙ h, le-leb (state .clock) (2 ^ 40) l, e)
 
-module _ (plan : Plan) (state : State) (a : Bool) (fit : a ≡ ready plan state) where
+module _ (plan : Plan) (state : State) (a : Bool) (fit : a ≡ ready plan (standing state)) where
   module _ (h : a ≡ true) where
     -- a plan that is ready is sound
     pub ready-sound : sound plan ≡ true
@@ -88,26 +88,26 @@ module _ (plan : Plan) (state : State) (a : Bool) (fit : a ≡ ready plan state)
 
   -- The outcome of a run. Plan value or state are not fit:
   module _ (k declines room : ℕ) where
-    pub outcome-unfit : a ≡ false → Unfit ≡ outcome plan state k declines room
+    pub outcome-unfit : a ≡ false → refused 16 ≡ outcome plan (standing state) k declines room
     unfolding outcome
     outcome-unfit h = rw (sym fit ∙ h)
 
-    module _ (h : a ≡ true) (b : Bool) (roomy : b ≡ (eqb k declines && leb (k * plan .cores) room)) where
+    module _ (h : a ≡ true) (b : Bool) (fits : b ≡ roomy plan k declines room) where
       -- the buffers' lengths do not fit
-      pub outcome-misfit : b ≡ false → Misfit ≡ outcome plan state k declines room
+      pub outcome-misfit : b ≡ false → refused 17 ≡ outcome plan (standing state) k declines room
       unfolding outcome
-      outcome-misfit l = rw (sym fit ∙ h, sym roomy ∙ l)
+      outcome-misfit l = rw (sym fit ∙ h, sym fits ∙ l)
 
-      module _ (l : b ≡ true) (c : Bool) (ends : c ≡ leb (state .clock + k) (2 ^ 40)) where
+      module _ (l : b ≡ true) (c : Bool) (ends : c ≡ inTime (state .clock) k) where
         -- a slot lies beyond the clock's range
-        pub outcome-beyond : c ≡ false → Beyond ≡ outcome plan state k declines room
+        pub outcome-beyond : c ≡ false → refused 15 ≡ outcome plan (standing state) k declines room
         unfolding outcome
-        outcome-beyond m = rw (sym fit ∙ h, sym roomy ∙ l, sym ends ∙ m)
+        outcome-beyond m = rw (sym fit ∙ h, sym fits ∙ l, sym ends ∙ m)
 
         -- and otherwise it is done
-        pub outcome-done : c ≡ true → Done ≡ outcome plan state k declines room
+        pub outcome-done : c ≡ true → done ≡ outcome plan (standing state) k declines room
         unfolding outcome
-        outcome-done m = rw (sym fit ∙ h, sym roomy ∙ l, sym ends ∙ m)
+        outcome-done m = rw (sym fit ∙ h, sym fits ∙ l, sym ends ∙ m)
 
 -- two tests that hold and fail together are the same
 same-test : (a b : Bool) → (a ≡ true → b ≡ true) → (a ≡ false → b ≡ false) → a ≡ b
@@ -115,16 +115,19 @@ same-test true b h l = sym (h refl)
 same-test false b h l = sym (l refl)
 
 -- room for k answers of each core, without a product that might wrap
-pub room-shared : (cores k declines room : ℕ) (r : Bool) → 0 < cores → r ≡ (eqb k declines && leb k (room / cores)) →
-    r ≡ (eqb k declines && leb (k * cores) room)
-room-shared cores k declines room r some e =
+pub room-shared : (plan : Plan) (k declines room : ℕ) (r : Bool) → 0 < plan .cores → r ≡ (eqb k declines && leb k (room / plan .cores)) →
+    r ≡ roomy plan k declines room
+unfolding roomy
+room-shared plan k declines room r some e =
+    let cores = plan .cores in
     e ∙ ap (λ b. eqb k declines && b)
     (same-test (leb k (room / cores)) (leb (k * cores) room)
     (λ h. le-leb (k * cores) room (le-div-iff-mul-le some .0 (leb-true k (room / cores) h)))
     (λ h. lt-leb (k * cores) room (div-lt-iff-lt-mul some .0 (leb-false k (room / cores) h))))
 
 -- k slots before the end of the clock's range, without a sum that might wrap
-pub range-left : (clock k : ℕ) → clock ≤ 2 ^ 40 → leb k (1099511627776 - clock) ≡ leb (clock + k) (2 ^ 40)
+pub range-left : (clock k : ℕ) → clock ≤ 2 ^ 40 → leb k (1099511627776 - clock) ≡ inTime clock k
+unfolding inTime
 range-left clock k most =
     same-test (leb k (1099511627776 - clock)) (leb (clock + k) (2 ^ 40))
     (λ h. le-leb (clock + k) (2 ^ 40) (omega (arith, leb-true k (1099511627776 - clock) h)))
@@ -134,33 +137,41 @@ range-left clock k most =
 abbrev pub Refusal : Outcome → Type 0
 Refusal o = OneOf (1 ∷ 2 ∷ 3 ∷ []) (tagOf the-type o)
 
-module _ (plan : Plan) (state : State) (k declines room : ℕ) (o : Outcome) (e : o ≡ outcome plan state k declines room) (done : o ≡ Done) where
-  -- a run that is done passed its three tests
-  done-tests : (ready plan state ≡ true) × ((eqb k declines && leb (k * plan .cores) room) ≡ true) × (leb (state .clock + k) (2 ^ 40) ≡ true)
-  unfolding outcome
-  done-tests = go (ready plan state) (eqb k declines && leb (k * plan .cores) room) (leb (state .clock + k) (2 ^ 40)) (sym e ∙ done)
-    where
-      go : (a b c : Bool) → cond a (cond b (cond c Done Beyond) Misfit) Unfit ≡ Done → (a ≡ true) × (b ≡ true) × (c ≡ true)
-      go true true true h = (refl, refl, refl)
-      go true true false h = (refl, refl, cc)
-      go true false c h = (refl, cc, cc)
-      go false b c h = (cc, cc, cc)
+-- a run that is done passed its three tests
+pub done-tests : (plan : Plan) (state : Standing) (k declines room : ℕ) → outcome plan state k declines room ≡ done →
+    (ready plan state ≡ true) × (roomy plan k declines room ≡ true) × (inTime (state .clock) k ≡ true)
+unfolding outcome
+done-tests plan state k declines room = go (ready plan state) (roomy plan k declines room) (inTime (state .clock) k)
+  where
+    go : (a b c : Bool) → cond a (cond b (cond c done (refused 15)) (refused 17)) (refused 16) ≡ done → (a ≡ true) × (b ≡ true) × (c ≡ true)
+    go true true true h = (refl, refl, refl)
+    go true true false h = (refl, refl, cc)
+    go true false c h = (refl, cc, cc)
+    go false b c h = (cc, cc, cc)
+
+module _ (plan : Plan) (state : State) (k declines room : ℕ) (o : Outcome) (e : said o ≡ outcome plan (standing state) k declines room) (ends : o ≡ Done) where
+  -- so has one of which the code says so
+  tests : (ready plan (standing state) ≡ true) × (roomy plan k declines room ≡ true) × (inTime (state .clock) k ≡ true)
+  tests = done-tests plan (standing state) k declines room (sym e ∙ ap said ends)
 
   -- its plan is sound
   pub done-sound : sound plan ≡ true
-  done-sound = ready-sound plan state true (sym (done-tests .0)) refl
+  done-sound = ready-sound plan state true (sym (tests .0)) refl
 
   -- its inputs are equally long
   pub done-equal : k ≡ declines
-  done-equal = eqb-true k declines (left-true (eqb k declines) _ (done-tests .1))
+  unfolding roomy
+  done-equal = eqb-true k declines (left-true (eqb k declines) _ (tests .1))
 
   -- there is room for its answers
   pub done-room : k * plan .cores ≤ room
-  done-room = leb-true (k * plan .cores) room (right-true (eqb k declines) _ (done-tests .1))
+  unfolding roomy
+  done-room = leb-true (k * plan .cores) room (right-true (eqb k declines) _ (tests .1))
 
   -- the clock stays in its range
   pub done-clock : state .clock + k ≤ 2 ^ 40
-  done-clock = leb-true (state .clock + k) (2 ^ 40) (done-tests .2)
+  unfolding inTime
+  done-clock = leb-true (state .clock + k) (2 ^ 40) (tests .2)
 
   -- and so does not wrap
   pub done-fits : Fits w64 (state .clock + k)

@@ -3,9 +3,9 @@ use Prim.Native.Nat.{ℕ, zero, suc, _+_, _*_, _^_, _≤_, _<_}
 use mathlib.Core.Bool.{true}
 use mathlib.Core.List.{List, [], _∷_, _++_}
 use mathlib.Core.Path.{_≡_, refl, sym, ap, _∙_}
-use lib.ListN.{length, getD, take, drop, replicate, length-append, length-drop}
+use lib.ListN.{length, getD, take, drop, replicate, length-append, length-drop, take-append-drop}
 use lib.Seq.{paste, length-take-le, take-at, drop-append-add, drop-drop}
-use native.Mathlib.Nat.{le-antisymm, zero-mul, suc-mul, mul-le-mul-left, mul-le-mul-right}
+use native.Mathlib.Nat.{le-antisymm, add-zero, zero-mul, one-mul, suc-mul, mul-le-mul-left, mul-le-mul-right}
 use native.Mathlib.Numerals.{add-one}
 use native.Mathlib.Omega.{arith}
 use mir.Syntax.{w64}
@@ -15,10 +15,10 @@ use Rattle.plans.specs.Sound.{sound}
 use Rattle.plans.specs.declared.Plan.{Plan}
 use Rattle.dispatch.proofs.Counting.{cores-most}
 use Rattle.dispatch.proofs.Refusals.{Refusal}
-use Rattle.dispatch.proofs.Slots.{length-grants}
+use Rattle.dispatch.proofs.Slots.{length-grants, slot-past}
 use Rattle.dispatch.specs.View.{View, viewOf}
-use Rattle.dispatch.specs.Slot.{slot}
-use Rattle.dispatch.specs.Run.{outcome, Course, courseTo, course, stateBy, outBy, ran, outAfter, grantsBy, stepped}
+use Rattle.dispatch.specs.Slot.{SlotEnd, slotEnd, slot, unsupplied}
+use Rattle.dispatch.specs.Run.{said, Standing, standing, outcome, Course, courseTo, course, stateBy, outBy, ran, outAfter, stepped}
 use Rattle.dispatch.specs.declared.Outcome.{Outcome}
 use Rattle.dispatch.specs.declared.Outcome.the-variants.{Done, Beyond, Unfit, Misfit}
 use Rattle.dispatch.specs.declared.State.{State}
@@ -72,7 +72,7 @@ module _ (v : View) (cores n : ℕ) (supplies declines start d : List ℕ) where
 
   -- one slot more
   pub give-more : cores ≤ 8 → (left out : List ℕ) (i : ℕ) → Given left out i →
-      (next : Served) → next ≡ slot v cores (n + i) (getD supplies i 0) (getD declines i 0) left →
+      (next : SlotEnd) → next ≡ slot v cores (n + i) (getD supplies i 0) (getD declines i 0) left →
       (after : List ℕ) → after ≡ paste out (i * cores) (next .grants) cores → Given (next .left) after (i + 1)
   unfolding courseTo
   give-more few left out i so next e after h =
@@ -88,12 +88,12 @@ module _ (plan : Plan) (state : State) (supplies declines d left out : List ℕ)
     (so : Given (viewOf plan) (plan .cores) (state .clock) supplies declines (state .left) d left out i)
     (l : i ≤ length supplies) (h : length supplies ≤ i) where
   -- past the last slot the counts are the run's
-  pub give-counts : left ≡ course plan state supplies declines .left
+  pub give-counts : left ≡ course plan (standing state) supplies declines .left
   unfolding course
   give-counts = rw (← (le-antisymm l h)) (so .counts)
 
   -- and so is the buffer
-  pub give-buffer : out ≡ course plan state supplies declines .answers ++ drop (length supplies * plan .cores) d
+  pub give-buffer : out ≡ course plan (standing state) supplies declines .answers ++ drop (length supplies * plan .cores) d
   unfolding course
   give-buffer = rw (← (le-antisymm l h)) (so .buffer)
 
@@ -112,60 +112,73 @@ refusal-not-done : Refusal Done → ⊥
 refusal-not-done = miss (1 ∷ 2 ∷ 3 ∷ []) 0 tt
 
 -- a refusal hands back the given state,
-refused-state : (o : Outcome) → Refusal o → (state : State) (k : ℕ) (c : Course) → stateBy o state k c ≡ state
+refused-state : (o : Outcome) → Refusal o → (state : Standing) (k : ℕ) (c : Course) → stateBy (said o) state k c ≡ state
 refused-state Done h state k c = absurd (refusal-not-done h)
 refused-state Beyond h state k c = refl
 refused-state Unfit h state k c = refl
 refused-state Misfit h state k c = refl
 
--- writes nowhere,
-refused-room : (o : Outcome) → Refusal o → (n : ℕ) (c : Course) (out : List ℕ) → outBy o n c out ≡ out
+-- and writes nowhere
+refused-room : (o : Outcome) → Refusal o → (n : ℕ) (c : Course) (out : List ℕ) → outBy (said o) n c out ≡ out
 refused-room Done h n c out = absurd (refusal-not-done h)
 refused-room Beyond h n c out = refl
 refused-room Unfit h n c out = refl
 refused-room Misfit h n c out = refl
 
--- and answers 255 eight times
-refused-grants : (o : Outcome) → Refusal o → (grants : List ℕ) → grantsBy o grants ≡ replicate 8 255
-refused-grants Done h grants = absurd (refusal-not-done h)
-refused-grants Beyond h grants = refl
-refused-grants Unfit h grants = refl
-refused-grants Misfit h grants = refl
-
 module _ (plan : Plan) (state : State) (supplies declines : List ℕ) (o : Outcome) where
-  module _ (room : ℕ) (e : o ≡ outcome plan state (length supplies) (length declines) room) where
+  module _ (room : ℕ) (e : said o ≡ outcome plan (standing state) (length supplies) (length declines) room) where
     -- a refused run hands back the given state
-    pub run-refused : Refusal o → record { outcome = o; state = state } ≡ ran plan state supplies declines room
+    pub run-refused : Refusal o → record { outcome = said o; state = standing state } ≡ ran plan (standing state) supplies declines room
     unfolding ran
     run-refused h = rw (← e, refused-state o h)
 
     -- and one that is done the counts after it, with the clock moved on
-    pub run-done : o ≡ Done → (left : List ℕ) → left ≡ course plan state supplies declines .left →
-        record { outcome = o; state = record { clock = state .clock + length supplies; left = left } } ≡ ran plan state supplies declines room
+    pub run-done : o ≡ Done → (left : List ℕ) → left ≡ course plan (standing state) supplies declines .left →
+        record { outcome = said o; state = record { clock = state .clock + length supplies; left = left } } ≡ ran plan (standing state) supplies declines room
     unfolding ran
     run-done h left l = rw (← e, h, l)
 
-  module _ (out : List ℕ) (e : o ≡ outcome plan state (length supplies) (length declines) (length out)) where
+  module _ (out : List ℕ) (e : said o ≡ outcome plan (standing state) (length supplies) (length declines) (length out)) where
     -- a refused run writes nowhere
-    pub room-kept : Refusal o → out ≡ outAfter plan state supplies declines out
+    pub room-kept : Refusal o → out ≡ outAfter plan (standing state) supplies declines out
     unfolding outAfter
     room-kept h = rw (← e, refused-room o h)
 
     -- and one that is done lays its answers down, and leaves the room beyond
     pub room-filled : o ≡ Done → (after : List ℕ) →
-        after ≡ course plan state supplies declines .answers ++ drop (length supplies * plan .cores) out →
-        after ≡ outAfter plan state supplies declines out
+        after ≡ course plan (standing state) supplies declines .answers ++ drop (length supplies * plan .cores) out →
+        after ≡ outAfter plan (standing state) supplies declines out
     unfolding outAfter
     room-filled h after l = rw (← e, h, l)
 
-module _ (plan : Plan) (state : State) (supplied declines : ℕ) (o : Outcome) (e : o ≡ outcome plan state 1 1 (plan .cores)) where
+module _ (plan : Plan) (state : Standing) (supplied declines : ℕ) where
+  -- a run of one is one slot
+  pub course-one :
+      let next : SlotEnd = slot (viewOf plan) (plan .cores) (state .clock) supplied declines (state .left) in
+      course plan state (supplied ∷ []) (declines ∷ []) ≡ record { left = next .left; answers = take (plan .cores) (next .grants) }
+  unfolding course courseTo
+  course-one = rw (add-zero (state .clock))
+
+  -- whose answers, laid down in eight bytes of 255, are all eight of the slot
+  pub grants-whole :
+      let next : SlotEnd = slot (viewOf plan) (plan .cores) (state .clock) supplied declines (state .left) in
+      take (plan .cores) (next .grants) ++ drop (1 * plan .cores) (replicate 8 unsupplied) ≡ next .grants
+  grants-whole =
+      let next = slot (viewOf plan) (plan .cores) (state .clock) supplied declines (state .left) in
+      rw (one-mul (plan .cores), ← (slot-past (viewOf plan) declines supplied (plan .cores) (state .clock) (state .left)))
+      (take-append-drop (plan .cores) (next .grants))
+
+module _ (plan : Plan) (state : State) (supplied declines : ℕ) (o : Outcome) (e : said o ≡ outcome plan (standing state) 1 1 8) where
   -- a refused step hands back the given state, and answers 255 eight times
-  pub step-refused : Refusal o → record { outcome = o; state = state; grants = replicate 8 255 } ≡ stepped plan state supplied declines
-  unfolding stepped
-  step-refused h = rw (← e, refused-state o h, refused-grants o h)
+  pub step-refused : Refusal o → record { outcome = said o; state = standing state; grants = replicate 8 255 } ≡ stepped plan (standing state) supplied declines
+  unfolding stepped ran outAfter
+  step-refused h = rw (← e, refused-state o h, refused-room o h)
 
   -- and one that is done the slot's answers and counts, with the clock moved on
-  pub step-done : o ≡ Done → (next : Served) → next ≡ slot (viewOf plan) (plan .cores) (state .clock) supplied declines (state .left) →
-      record { outcome = o; state = record { clock = state .clock + 1; left = next .left }; grants = next .grants } ≡ stepped plan state supplied declines
-  unfolding stepped
-  step-done h next l = rw (← e, h, l)
+  pub step-done : o ≡ Done → (next : Served) → slotEnd next ≡ slot (viewOf plan) (plan .cores) (state .clock) supplied declines (state .left) →
+      record { outcome = said o; state = record { clock = state .clock + 1; left = next .left }; grants = next .grants } ≡
+      stepped plan (standing state) supplied declines
+  unfolding stepped ran outAfter
+  step-done h next l =
+      let one = course-one plan (standing state) supplied declines in
+      rw (← e, h, one, grants-whole plan (standing state) supplied declines, ← (ap (λ so. so .left) l), ← (ap (λ so. so .grants) l))

@@ -4,26 +4,22 @@ use mathlib.Core.Bool.{Bool, true, false, cond}
 use mathlib.Core.List.{List}
 use mathlib.Core.Path.{_≡_, refl, sym, _∙_}
 use lib.Dec.{eqb}
-use lib.ListN.{length, getD, set, replicate, length-set, List·getD-eq-default}
-use lib.Seq.{getD-set-same, getD-set-other, set-out}
+use lib.ListN.{length, getD, set, drop, replicate, length-set, List·getD-eq-default}
+use lib.Seq.{getD-set-same, getD-set-other, set-out, drop-set-lt}
 use borrow.Author.Tests.{eq-eqb, ne-eqb}
 use native.Mathlib.Decide.{ℕ-discrete, decLt}
 use native.Mathlib.Omega.{arith}
 use Rattle.plans.specs.declared.Parent.{Parent}
 use Rattle.plans.specs.declared.Parent.the-variants.{Supply, Node as Under}
 use Rattle.dispatch.specs.View.{View, bitOf}
-use Rattle.dispatch.specs.Choice.{choose}
-use Rattle.dispatch.specs.Slot.{refillOne, refillTo, refilled, charge, follow, walk, granting, serveCore, serveTo, slot, unsupplied}
-use Rattle.dispatch.specs.declared.Choice.{Choice}
-use Rattle.dispatch.specs.declared.Choice.the-variants.{Nobody, Child}
-use Rattle.dispatch.specs.declared.Served.{Served}
-use Rattle.dispatch.specs.declared.Walked.{Walked}
+use Rattle.dispatch.specs.Choice.{Pick, nobody, just, choose}
+use Rattle.dispatch.specs.Slot.{WalkEnd, SlotEnd, due, refillOne, refillTo, refilled, charge, follow, walk, granting, serveCore, serveTo, slot, unsupplied}
 
 module _ (v : View) (n : ℕ) where
   -- a refill of node k leaves the others as they are,
   refill-one-other : (left : List ℕ) (k i : ℕ) → (i ≡ k → ⊥) → getD (refillOne v n left k) i 0 ≡ getD left i 0
   unfolding refillOne
-  refill-one-other left k i other = go (eqb (n % v .t k) 0)
+  refill-one-other left k i other = go (due v n k)
     where
       go : (b : Bool) → getD (cond b (set left k (v .c k)) left) i 0 ≡ getD left i 0
       go true = getD-set-other left k i (v .c k) 0 other
@@ -31,18 +27,18 @@ module _ (v : View) (n : ℕ) where
 
   -- changes nothing where the slot is no multiple of k's period,
   refill-one-kept : (left : List ℕ) (k : ℕ) → (n % v .t k ≡ 0 → ⊥) → refillOne v n left k ≡ left
-  unfolding refillOne
+  unfolding refillOne due
   refill-one-kept left k kept = rw (ne-eqb (n % v .t k) 0 kept)
 
   -- gives k its served C where it is,
   refill-one-due : (left : List ℕ) (k : ℕ) → k < length left → n % v .t k ≡ 0 → getD (refillOne v n left k) k 0 ≡ v .c k
-  unfolding refillOne
-  refill-one-due left k here due = rw (eq-eqb (n % v .t k) 0 due) (getD-set-same left k (v .c k) 0 here)
+  unfolding refillOne due
+  refill-one-due left k here now = rw (eq-eqb (n % v .t k) 0 now) (getD-set-same left k (v .c k) 0 here)
 
   -- and keeps the number of counts
   length-refill-one : (left : List ℕ) (k : ℕ) → length (refillOne v n left k) ≡ length left
   unfolding refillOne
-  length-refill-one left k = go (eqb (n % v .t k) 0)
+  length-refill-one left k = go (due v n k)
     where
       go : (b : Bool) → length (cond b (set left k (v .c k)) left) ≡ length left
       go true = length-set left k (v .c k)
@@ -67,11 +63,11 @@ module _ (v : View) (n : ℕ) where
   -- and gives what is due its served C
   refill-to-due : (left : List ℕ) (i k : ℕ) → i < length left → n % v .t i ≡ 0 → i < k → getD (refillTo v n left k) i 0 ≡ v .c i
   unfolding refillTo
-  refill-to-due left i zero here due l = absurd (omega arith)
-  refill-to-due left i (suc k) here due l = go (ℕ-discrete i k) (refill-to-due left i k here due)
+  refill-to-due left i zero here now l = absurd (omega arith)
+  refill-to-due left i (suc k) here now l = go (ℕ-discrete i k) (refill-to-due left i k here now)
     where
       go : Dec (i ≡ k) → (i < k → getD (refillTo v n left k) i 0 ≡ v .c i) → getD (refillOne v n (refillTo v n left k) k) i 0 ≡ v .c i
-      go (yes e) before = rw (← e) (refill-one-due (refillTo v n left i) i (omega (arith, length-refill-to left i)) due)
+      go (yes e) before = rw (← e) (refill-one-due (refillTo v n left i) i (omega (arith, length-refill-to left i)) now)
       go (no other) before = refill-one-other (refillTo v n left k) k i other ∙ before (omega arith)
 
   module _ (left : List ℕ) where
@@ -83,7 +79,7 @@ module _ (v : View) (n : ℕ) where
     -- a node whose period begins at this slot has its served C
     pub refilled-due : (i : ℕ) → i < v .size → i < length left → n % v .t i ≡ 0 → getD (refilled v n left) i 0 ≡ v .c i
     unfolding refilled
-    refilled-due i l here due = refill-to-due left i (v .size) here due l
+    refilled-due i l here now = refill-to-due left i (v .size) here now l
 
     -- any other is kept
     pub refilled-kept : (i : ℕ) → (i < v .size → n % v .t i ≡ 0 → ⊥) → getD (refilled v n left) i 0 ≡ getD left i 0
@@ -119,11 +115,11 @@ module _ (left : List ℕ) (i : ℕ) where
 
 module _ (v : View) (declines : ℕ) where
   -- what follows a choice keeps the number of counts, where the walk below a host does
-  length-follow : (onward : Parent → List ℕ → Walked) → ((x : Parent) (left : List ℕ) → length (onward x left .left) ≡ length left) →
-      (left : List ℕ) (w : Choice) → length (follow v onward left w .left) ≡ length left
+  length-follow : (onward : Parent → List ℕ → WalkEnd) → ((x : Parent) (left : List ℕ) → length (onward x left .left) ≡ length left) →
+      (left : List ℕ) (w : Pick) → length (follow v onward left w .left) ≡ length left
   unfolding follow
-  length-follow onward keeps left Nobody = refl
-  length-follow onward keeps left (Child i) = go (v .leaf i)
+  length-follow onward keeps left nobody = refl
+  length-follow onward keeps left (just i) = go (v .leaf i)
     where
       go : (b : Bool) → length (cond b (record { grant = i; left = charge left i }) (onward (Under i) (charge left i)) .left) ≡ length left
       go true = length-charge left i
@@ -137,12 +133,12 @@ module _ (v : View) (declines : ℕ) where
 
   module _ (supplied : ℕ) where
     -- serving a core keeps the number of counts and of answers
-    length-core : (so : Served) (s : ℕ) →
+    length-core : (so : SlotEnd) (s : ℕ) →
         (length (serveCore v supplied declines so s .left) ≡ length (so .left)) × (length (serveCore v supplied declines so s .grants) ≡ length (so .grants))
     unfolding serveCore granting
     length-core so s = go (bitOf supplied s)
       where
-        w : Walked
+        w : WalkEnd
         w = walk v declines 8 (Supply s) (so .left)
 
         go : (b : Bool) →
@@ -151,7 +147,7 @@ module _ (v : View) (declines : ℕ) where
         go false = (refl, refl)
 
     -- and so does serving the first k cores
-    length-serve : (so : Served) (k : ℕ) →
+    length-serve : (so : SlotEnd) (k : ℕ) →
         (length (serveTo v supplied declines so k .left) ≡ length (so .left)) × (length (serveTo v supplied declines so k .grants) ≡ length (so .grants))
     unfolding serveTo
     length-serve so zero = (refl, refl)
@@ -160,7 +156,28 @@ module _ (v : View) (declines : ℕ) where
         let before = length-serve so k in
         (core .0 ∙ before .0, core .1 ∙ before .1)
 
+    -- the answers past the first k cores are as they were
+    grants-past : (so : SlotEnd) (k : ℕ) → drop k (serveTo v supplied declines so k .grants) ≡ drop k (so .grants)
+    unfolding serveTo serveCore granting
+    grants-past so k = later k k (omega arith)
+      where
+        core-past : (at : SlotEnd) (s m : ℕ) → s < m → drop m (serveCore v supplied declines at s .grants) ≡ drop m (at .grants)
+        core-past at s m l = go (bitOf supplied s)
+          where
+            go : (b : Bool) → drop m (cond b (granting at s (walk v declines 8 (Supply s) (at .left))) at .grants) ≡ drop m (at .grants)
+            go true = drop-set-lt m (at .grants) s (walk v declines 8 (Supply s) (at .left) .grant) l
+            go false = refl
+
+        later : (j m : ℕ) → j ≤ m → drop m (serveTo v supplied declines so j .grants) ≡ drop m (so .grants)
+        later zero m l = refl
+        later (suc j) m l = core-past (serveTo v supplied declines so j) j m (omega arith) ∙ later j m (omega arith)
+
     module _ (cores n : ℕ) (left : List ℕ) where
+      -- past the last core a slot answers 255
+      pub slot-past : drop cores (slot v cores n supplied declines left .grants) ≡ drop cores (replicate 8 unsupplied)
+      unfolding slot
+      slot-past = grants-past (record { grants = replicate 8 unsupplied; left = refilled v n left }) cores
+
       -- a slot keeps the number of counts
       pub length-slot : length (slot v cores n supplied declines left .left) ≡ length left
       unfolding slot

@@ -12,11 +12,8 @@ use Rattle.plans.specs.declared.Parent.the-variants.{Supply, Node as Under}
 use Rattle.plans.specs.declared.Plan.{Plan}
 use Rattle.dispatch.proofs.Choices.{choice-below, choice-under}
 use Rattle.dispatch.specs.View.{View, viewOf}
-use Rattle.dispatch.specs.Choice.{choose}
-use Rattle.dispatch.specs.Slot.{charge, follow, walk}
-use Rattle.dispatch.specs.declared.Choice.{Choice}
-use Rattle.dispatch.specs.declared.Choice.the-variants.{Nobody, Child}
-use Rattle.dispatch.specs.declared.Walked.{Walked}
+use Rattle.dispatch.specs.Choice.{Pick, nobody, just, choose}
+use Rattle.dispatch.specs.Slot.{WalkEnd, charge, follow, walk}
 
 -- how deep a parent stands: a supply at 0, a host at its depth
 pub data Stands (plan : Plan) : Parent → ℕ → Type 0 where
@@ -24,11 +21,11 @@ pub data Stands (plan : Plan) : Parent → ℕ → Type 0 where
   at-depth : {h d : ℕ} → Depth plan h d → Stands plan (Under h) d
 
 -- what follows a choice is alike where the walks below the chosen host are
-follow-alike : (v : View) (f g : Parent → List ℕ → Walked) (left : List ℕ) (w : Choice) →
-    ((i : ℕ) → w ≡ Child i → f (Under i) (charge left i) ≡ g (Under i) (charge left i)) → follow v f left w ≡ follow v g left w
+follow-alike : (v : View) (f g : Parent → List ℕ → WalkEnd) (left : List ℕ) (w : Pick) →
+    ((i : ℕ) → w ≡ just i → f (Under i) (charge left i) ≡ g (Under i) (charge left i)) → follow v f left w ≡ follow v g left w
 unfolding follow
-follow-alike v f g left Nobody alike = refl
-follow-alike v f g left (Child i) alike = rw (alike i refl)
+follow-alike v f g left nobody alike = refl
+follow-alike v f g left (just i) alike = rw (alike i refl)
 
 module _ (plan : Plan) where
   -- a child of a parent has a depth, one more than where the parent stands
@@ -38,17 +35,17 @@ module _ (plan : Plan) where
 
 module _ (plan : Plan) (sound : Sound plan) (declines : ℕ) where
   -- a chosen host stands one deeper than its parent
-  pub choice-stands : {x : Parent} {e : ℕ} → Stands plan x e → (left : List ℕ) (i : ℕ) → choose (viewOf plan) left declines x ≡ Child i →
+  pub choice-stands : {x : Parent} {e : ℕ} → Stands plan x e → (left : List ℕ) (i : ℕ) → choose (viewOf plan) left declines x ≡ just i →
       Stands plan (Under i) (suc e)
   choice-stands {x = x} s left i c = at-depth (child-depth plan s i (choice-under (viewOf plan) left declines x i c))
 
   -- and at 8 at most, so under a parent that stands there nobody is chosen
-  pub deepest-nobody : {x : Parent} {e : ℕ} → Stands plan x e → 8 ≤ e → (left : List ℕ) → choose (viewOf plan) left declines x ≡ Nobody
+  pub deepest-nobody : {x : Parent} {e : ℕ} → Stands plan x e → 8 ≤ e → (left : List ℕ) → choose (viewOf plan) left declines x ≡ nobody
   deepest-nobody {x = x} {e = e} s l left = go (choose (viewOf plan) left declines x) refl
     where
-      go : (w : Choice) → choose (viewOf plan) left declines x ≡ w → w ≡ Nobody
-      go Nobody c = refl
-      go (Child i) c =
+      go : (w : Pick) → choose (viewOf plan) left declines x ≡ w → w ≡ nobody
+      go nobody c = refl
+      go (just i) c =
           let deep = child-depth plan s i (choice-under (viewOf plan) left declines x i c) in
           absurd (omega (arith, sound .depths i (suc e) (choice-below (viewOf plan) left declines x i c) deep))
 

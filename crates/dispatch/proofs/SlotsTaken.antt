@@ -14,17 +14,14 @@ use Rattle.plans.specs.declared.Plan.{Plan}
 use Rattle.dispatch.proofs.Choices.{choice-below, choice-under}
 use Rattle.dispatch.proofs.Slots.{charge-same, charge-other}
 use Rattle.dispatch.specs.View.{View, viewOf}
-use Rattle.dispatch.specs.Choice.{choose}
-use Rattle.dispatch.specs.Slot.{charge, follow, walk}
+use Rattle.dispatch.specs.Choice.{Pick, nobody, just, choose}
+use Rattle.dispatch.specs.Slot.{WalkEnd, charge, follow, walk}
 use Rattle.dispatch.specs.Promises.{TakenIsCharged}
-use Rattle.dispatch.specs.declared.Choice.{Choice}
-use Rattle.dispatch.specs.declared.Choice.the-variants.{Nobody, Child}
-use Rattle.dispatch.specs.declared.Walked.{Walked}
 
-module _ (v : View) (onward : Parent → List ℕ → Walked) (left : List ℕ) (i : ℕ) where
+module _ (v : View) (onward : Parent → List ℕ → WalkEnd) (left : List ℕ) (i : ℕ) where
   -- after a choice node j's count is as the choice's charge left it, where the walk below the chosen node keeps it
   follow-count : (j : ℕ) → getD (onward (Under i) (charge left i) .left) j 0 ≡ getD (charge left i) j 0 →
-      getD (follow v onward left (Child i) .left) j 0 ≡ getD (charge left i) j 0
+      getD (follow v onward left (just i) .left) j 0 ≡ getD (charge left i) j 0
   unfolding follow
   follow-count j keeps = go (v .leaf i)
     where
@@ -39,11 +36,11 @@ module _ (plan : Plan) (sound : Sound plan) (declines : ℕ) where
   walk-later zero h j left l = refl
   walk-later (suc levels) h j left l = go (choose (viewOf plan) left declines (Under h)) refl (walk-later levels)
     where
-      go : (w : Choice) → choose (viewOf plan) left declines (Under h) ≡ w →
+      go : (w : Pick) → choose (viewOf plan) left declines (Under h) ≡ w →
           ((k j : ℕ) (counts : List ℕ) → j ≤ k → getD (walk (viewOf plan) declines levels (Under k) counts .left) j 0 ≡ getD counts j 0) →
           getD (follow (viewOf plan) (walk (viewOf plan) declines levels) left w .left) j 0 ≡ getD left j 0
-      go Nobody c below = refl
-      go (Child i) c below =
+      go nobody c below = refl
+      go (just i) c below =
           let later : h < i =
           host-earlier plan sound i (choice-below (viewOf plan) left declines (Under h) i c) h (choice-under (viewOf plan) left declines (Under h) i c) in
           follow-count (viewOf plan) (walk (viewOf plan) declines levels) left i j (below i j (charge left i) (omega arith)) ∙

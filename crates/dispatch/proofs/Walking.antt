@@ -2,7 +2,7 @@
 use Prim.Native.Nat.{ℕ, zero, suc, _+_, _-_, _≤_, _<_}
 use mathlib.Core.Bool.{Bool, true, false}
 use mathlib.Core.List.{List}
-use mathlib.Core.Path.{_≡_, refl, sym, _∙_}
+use mathlib.Core.Path.{_≡_, refl, sym, ap, _∙_}
 use lib.ListN.{getD, set, replicate}
 use native.Mathlib.Nat.{le-antisymm}
 use native.Mathlib.Numerals.{add-one}
@@ -17,18 +17,18 @@ use Rattle.plans.specs.declared.Plan.{Plan}
 use Rattle.dispatch.proofs.Choices.{choice-below, choice-left}
 use Rattle.dispatch.proofs.Counting.{node-place}
 use Rattle.dispatch.specs.View.{View, bitOf, isLeaf, viewOf}
-use Rattle.dispatch.specs.Choice.{choose}
-use Rattle.dispatch.specs.Slot.{refilled, charge, follow, walk, granting, serveCore, serveTo, slot}
+use Rattle.dispatch.specs.Choice.{picked, choose}
 use Rattle.dispatch.specs.declared.Choice.{Choice}
 use Rattle.dispatch.specs.declared.Choice.the-variants.{Nobody, Child}
-use Rattle.dispatch.specs.declared.Served.{Served}
+use Rattle.dispatch.specs.Slot.{WalkEnd, walkEnd, SlotEnd, slotEnd, refilled, charge, follow, walk, granting, serveCore, serveTo, slot}
 use Rattle.dispatch.specs.declared.Walked.{Walked}
+use Rattle.dispatch.specs.declared.Served.{Served}
 
-module _ (plan : Plan) (declines : ℕ) (x : Parent) (left : List ℕ) (w : Choice) (chosen : w ≡ choose (viewOf plan) left declines x)
+module _ (plan : Plan) (declines : ℕ) (x : Parent) (left : List ℕ) (w : Choice) (chosen : picked w ≡ choose (viewOf plan) left declines x)
     (i : ℕ) (is : w ≡ Child i) where
   -- the node that is taken has a place among the counts
   pub taken-place : sound plan ≡ true → i < 64
-  taken-place keeps = node-place plan keeps i (choice-below (viewOf plan) left declines x i (sym chosen ∙ is))
+  taken-place keeps = node-place plan keeps i (choice-below (viewOf plan) left declines x i (sym chosen ∙ ap picked is))
 
   -- a number that a byte holds
   pub taken-byte : sound plan ≡ true → Fits w8 i
@@ -36,7 +36,7 @@ module _ (plan : Plan) (declines : ℕ) (x : Parent) (left : List ℕ) (w : Choi
 
   -- and slots left
   pub taken-left : 0 < getD left i 0
-  taken-left = choice-left (viewOf plan) left declines x i (sym chosen ∙ is)
+  taken-left = choice-left (viewOf plan) left declines x i (sym chosen ∙ ap picked is)
 
 -- The walk from parent x. With no level to go the slot is idle:
 module _ (plan : Plan) (declines levels : ℕ) (x : Parent) (left : List ℕ) where
@@ -44,17 +44,17 @@ module _ (plan : Plan) (declines levels : ℕ) (x : Parent) (left : List ℕ) wh
   unfolding walk
   walk-ended e = rw e
 
-  module _ (some : levels ≡ 0 → ⊥) (w : Choice) (chosen : w ≡ choose (viewOf plan) left declines x) where
+  module _ (some : levels ≡ 0 → ⊥) (w : Choice) (chosen : picked w ≡ choose (viewOf plan) left declines x) where
     -- what follows the choice, with one level less to go
-    walk-on : walk (viewOf plan) declines levels x left ≡ follow (viewOf plan) (walk (viewOf plan) declines (levels - 1)) left w
+    walk-on : walk (viewOf plan) declines levels x left ≡ follow (viewOf plan) (walk (viewOf plan) declines (levels - 1)) left (picked w)
     unfolding walk
     walk-on = go levels some
       where
-        go : (k : ℕ) → (k ≡ 0 → ⊥) → walk (viewOf plan) declines k x left ≡ follow (viewOf plan) (walk (viewOf plan) declines (k - 1)) left w
+        go : (k : ℕ) → (k ≡ 0 → ⊥) → walk (viewOf plan) declines k x left ≡ follow (viewOf plan) (walk (viewOf plan) declines (k - 1)) left (picked w)
         go zero h = absurd (h refl)
         go (suc k) h =
             let less : suc k - 1 ≡ k = omega arith in
-            rw (less, chosen)
+            rw (less, ← chosen)
 
     -- where there is nobody to take the slot is idle
     pub walk-idle : w ≡ Nobody → record { grant = 254; left = left } ≡ walk (viewOf plan) declines levels x left
@@ -68,7 +68,7 @@ module _ (plan : Plan) (declines levels : ℕ) (x : Parent) (left : List ℕ) wh
       walk-leaf h = rw (walk-on, is, sym host ∙ h, less)
 
       -- and at a host the walk goes on below it
-      pub walk-host : b ≡ true → (r : Walked) → r ≡ walk (viewOf plan) declines (levels - 1) (Under i) charged →
+      pub walk-host : b ≡ true → (r : WalkEnd) → r ≡ walk (viewOf plan) declines (levels - 1) (Under i) charged →
           r ≡ walk (viewOf plan) declines levels x left
       unfolding follow isLeaf
       walk-host h r e = rw (walk-on, is, sym host ∙ h, e, less)
@@ -76,30 +76,30 @@ module _ (plan : Plan) (declines levels : ℕ) (x : Parent) (left : List ℕ) wh
 module _ (v : View) (supplied declines : ℕ) where
   module _ (so : Served) (s : ℕ) (b : Bool) (bit : b ≡ bitOf supplied s) where
     -- a core that is not supplied changes nothing
-    pub core-passed : b ≡ false → so ≡ serveCore v supplied declines so s
+    pub core-passed : b ≡ false → slotEnd so ≡ serveCore v supplied declines (slotEnd so) s
     unfolding serveCore
     core-passed h = rw (sym bit ∙ h)
 
     -- and one that is gets what its walk ends with
-    pub core-served : b ≡ true → (w : Walked) → w ≡ walk v declines 8 (Supply s) (so .left) →
-        record { grants = set (so .grants) s (w .grant); left = w .left } ≡ serveCore v supplied declines so s
+    pub core-served : b ≡ true → (w : Walked) → walkEnd w ≡ walk v declines 8 (Supply s) (so .left) →
+        record { grants = set (so .grants) s (w .grant); left = w .left } ≡ serveCore v supplied declines (slotEnd so) s
     unfolding serveCore granting
-    core-served h w e = rw (sym bit ∙ h, e)
+    core-served h w e = rw (sym bit ∙ h) (ap (granting (slotEnd so) s) e)
 
   -- The loop over the cores, whose invariant is (s ≤ cores) × (so ≡ serveTo v supplied declines start s). Before the first core:
-  pub serve-none : (start : Served) → start ≡ serveTo v supplied declines start 0
+  pub serve-none : (start : SlotEnd) → start ≡ serveTo v supplied declines start 0
   unfolding serveTo
   serve-none start = refl
 
   -- one core more
-  pub serve-more : (start so : Served) (s : ℕ) → so ≡ serveTo v supplied declines start s →
-      (r : Served) → r ≡ serveCore v supplied declines so s → r ≡ serveTo v supplied declines start (s + 1)
+  pub serve-more : (start so : SlotEnd) (s : ℕ) → so ≡ serveTo v supplied declines start s →
+      (r : SlotEnd) → r ≡ serveCore v supplied declines so s → r ≡ serveTo v supplied declines start (s + 1)
   unfolding serveTo
   serve-more start so s e r h = rw (add-one s, h, e)
 
   -- past the last it is the slot
   pub serve-done : (cores n : ℕ) (left full : List ℕ) → full ≡ refilled v n left →
-      (so : Served) (s : ℕ) → so ≡ serveTo v supplied declines (record { grants = replicate 8 255; left = full }) s →
+      (so : SlotEnd) (s : ℕ) → so ≡ serveTo v supplied declines (record { grants = replicate 8 255; left = full }) s →
       s ≤ cores → cores ≤ s → so ≡ slot v cores n supplied declines left
   unfolding slot
   serve-done cores n left full e so s h l m = h ∙ rw (e, le-antisymm l m)

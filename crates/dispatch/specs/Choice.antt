@@ -10,26 +10,36 @@ use Rattle.plans.specs.Plan.{same}
 use Rattle.plans.specs.declared.Parent.{Parent}
 use Rattle.dispatch.specs.View.{View, bitOf}
 use Rattle.dispatch.specs.declared.Choice.{Choice}
-use Rattle.dispatch.specs.declared.Choice.the-variants.{Nobody, Child}
+use Rattle.dispatch.specs.declared.Choice.the-variants as code
+
+-- whom a parent gives a slot to: nobody, or just one node
+pub data Pick : Type 0 where
+  nobody : Pick
+  just : ℕ → Pick
+
+-- what the code's choice says
+abbrev pub picked : Choice → Pick
+picked code.Nobody = nobody
+picked (code.Child i) = just i
 
 -- 01: "among its children with slots left, leaves that decline passed over": whether node i may be taken under x
 unfoldable pub eligible : View → List ℕ → ℕ → Parent → ℕ → Bool
 eligible v left declines x i = same (v .parent i) x && (ltb 0 (getD left i 0) && not (v .leaf i && bitOf declines i))
 
 -- 01: "take the smallest served T, then the lowest number": node i against the choice among the nodes before it
-unfoldable pub prefer : View → Choice → ℕ → Choice
-prefer v Nobody i = Child i
-prefer v (Child j) i = cond (ltb (v .t i) (v .t j)) (Child i) (Child j)
+unfoldable pub prefer : View → Pick → ℕ → Pick
+prefer v nobody i = just i
+prefer v (just j) i = cond (ltb (v .t i) (v .t j)) (just i) (just j)
 
-unfoldable pub consider : View → List ℕ → ℕ → Parent → Choice → ℕ → Choice
+unfoldable pub consider : View → List ℕ → ℕ → Parent → Pick → ℕ → Pick
 consider v left declines x best i = cond (eligible v left declines x i) (prefer v best i) best
 
 -- the choice among the first k nodes
-unfoldable pub chooseTo : View → List ℕ → ℕ → Parent → ℕ → Choice
-chooseTo v left declines x zero = Nobody
+unfoldable pub chooseTo : View → List ℕ → ℕ → Parent → ℕ → Pick
+chooseTo v left declines x zero = nobody
 chooseTo v left declines x (suc k) = consider v left declines x (chooseTo v left declines x k) k
 
-unfoldable pub choose : View → List ℕ → ℕ → Parent → Choice
+unfoldable pub choose : View → List ℕ → ℕ → Parent → Pick
 choose v left declines x = chooseTo v left declines x (v .size)
 
 -- what the choice is, as document 01's sentence: i may be taken, and no other that may has a smaller served T, or the same and a lower number

@@ -1,30 +1,26 @@
 -- What is promised of the choice, of steps and of runs. Why each holds is in proofs/. Assumes nothing.
 use Prim.Native.Nat.{ℕ, suc, _+_, _-_, _<_}
 use mathlib.Core.Bool.{true, false}
-use mathlib.Core.List.{List, [], _∷_, _++_}
+use mathlib.Core.List.{List, _++_}
 use mathlib.Core.Logic.{_↔_}
 use mathlib.Core.Path.{_≡_}
-use lib.ListN.{length, getD, take}
+use lib.ListN.{length, getD}
 use Rattle.plans.specs.Sound.{Sound}
 use Rattle.plans.specs.declared.Parent.{Parent}
 use Rattle.plans.specs.declared.Parent.the-variants.{Supply}
 use Rattle.plans.specs.declared.Plan.{Plan}
 use Rattle.dispatch.specs.View.{View, viewOf}
-use Rattle.dispatch.specs.Choice.{eligible, choose, Chosen}
-use Rattle.dispatch.specs.Slot.{walk}
-use Rattle.dispatch.specs.Run.{Course, courseTo, course, said, ran, stepped}
-use Rattle.dispatch.specs.declared.Choice.{Choice}
-use Rattle.dispatch.specs.declared.Choice.the-variants.{Nobody, Child}
+use Rattle.dispatch.specs.Choice.{nobody, just, eligible, choose, Chosen}
+use Rattle.dispatch.specs.Slot.{SlotEnd, walk, slot}
+use Rattle.dispatch.specs.Run.{done, said, Standing, Course, courseTo, stepped}
 use Rattle.dispatch.specs.declared.Outcome.{Outcome}
-use Rattle.dispatch.specs.declared.Outcome.the-variants.{Done}
-use Rattle.dispatch.specs.declared.State.{State}
 
 -- The choice is the one that document 01's sentence names, and there is nobody exactly when nobody may be taken.
 abbrev pub ChoiceExactly : Type 0
 ChoiceExactly =
     (v : View) (left : List ℕ) (declines : ℕ) (x : Parent) →
-    ((i : ℕ) → (choose v left declines x ≡ Child i) ↔ Chosen v left declines x i) ×
-    ((choose v left declines x ≡ Nobody) ↔ ((j : ℕ) → j < v .size → eligible v left declines x j ≡ false))
+    ((i : ℕ) → (choose v left declines x ≡ just i) ↔ Chosen v left declines x i) ×
+    ((choose v left declines x ≡ nobody) ↔ ((j : ℕ) → j < v .size → eligible v left declines x j ≡ false))
 
 -- The walk never runs out of levels on a sound plan: more levels change nothing.
 abbrev pub EightLevels : Type 0
@@ -41,15 +37,13 @@ RunsJoin =
     courseTo v cores n (supplies ++ supplies') (declines ++ declines') left (length supplies + length supplies') ≡
     record { left = two .left; answers = one .answers ++ two .answers }
 
--- A step is a run of one: the same outcome and state, and where it is done the run's answers are its first ones.
-abbrev pub StepIsRun : Type 0
-StepIsRun =
-    (plan : Plan) (state : State) (supplied declines : ℕ) →
-    (stepped plan state supplied declines .outcome ≡ ran plan state (supplied ∷ []) (declines ∷ []) (plan .cores) .outcome) ×
-    (stepped plan state supplied declines .state ≡ ran plan state (supplied ∷ []) (declines ∷ []) (plan .cores) .state) ×
-    (stepped plan state supplied declines .outcome ≡ Done →
-    take (plan .cores) (stepped plan state supplied declines .grants) ≡
-    course plan state (supplied ∷ []) (declines ∷ []) .answers)
+-- A step that is done is one slot: its eight answers are the slot's, its counts are those after it, and the clock is one later.
+abbrev pub StepIsSlot : Type 0
+StepIsSlot =
+    (plan : Plan) (state : Standing) (supplied declines : ℕ) → stepped plan state supplied declines .outcome ≡ done →
+    let next : SlotEnd = slot (viewOf plan) (plan .cores) (state .clock) supplied declines (state .left) in
+    stepped plan state supplied declines ≡
+    record { outcome = done; state = record { clock = state .clock + 1; left = next .left }; grants = next .grants }
 
 -- two outcomes that say the same in document 01's terms are the same, so every equation allows one result
 abbrev pub OneOutcome : Type 0
@@ -59,5 +53,5 @@ OneOutcome = (a b : Outcome) → said a ≡ said b → a ≡ b
 -- slot less after the walk, leaf or host, and whatever the walk finds below a host.
 abbrev pub TakenIsCharged : Type 0
 TakenIsCharged =
-    (plan : Plan) → Sound plan → (declines levels : ℕ) (x : Parent) (left : List ℕ) (i : ℕ) → choose (viewOf plan) left declines x ≡ Child i →
+    (plan : Plan) → Sound plan → (declines levels : ℕ) (x : Parent) (left : List ℕ) (i : ℕ) → choose (viewOf plan) left declines x ≡ just i →
     getD (walk (viewOf plan) declines (suc levels) x left .left) i 0 ≡ getD left i 0 - 1

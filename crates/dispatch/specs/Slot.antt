@@ -7,16 +7,17 @@ use lib.ListN.{getD, set, replicate}
 use Rattle.plans.specs.declared.Parent.{Parent}
 use Rattle.plans.specs.declared.Parent.the-variants.{Supply, Node as Under}
 use Rattle.dispatch.specs.View.{View, bitOf}
-use Rattle.dispatch.specs.Choice.{choose}
-use Rattle.dispatch.specs.declared.Choice.{Choice}
-use Rattle.dispatch.specs.declared.Choice.the-variants.{Nobody, Child}
+use Rattle.dispatch.specs.Choice.{Pick, nobody, just, choose}
 use Rattle.dispatch.specs.declared.Walked.{Walked}
 use Rattle.dispatch.specs.declared.Served.{Served}
 
--- 01: "At each slot whose number is a multiple of a node's served T, its left becomes its served C before anything is picked": node i at slot n,
--- and the first k nodes
+-- 01: "At each slot whose number is a multiple of a node's served T": whether node i is due for its refill at slot n
+unfoldable pub due : View → ℕ → ℕ → Bool
+due v n i = eqb (n % v .t i) 0
+
+-- 01: "its left becomes its served C before anything is picked": node i at slot n, and the first k nodes
 unfoldable pub refillOne : View → ℕ → List ℕ → ℕ → List ℕ
-refillOne v n left i = cond (eqb (n % v .t i) 0) (set left i (v .c i)) left
+refillOne v n left i = cond (due v n i) (set left i (v .c i)) left
 
 unfoldable pub refillTo : View → ℕ → List ℕ → ℕ → List ℕ
 refillTo v n left zero = left
@@ -36,31 +37,49 @@ idle = 254
 abbrev pub unsupplied : ℕ
 unsupplied = 255
 
+-- where a walk ends: the leaf or 254, and the counts
+pub record WalkEnd : Type 0 where
+  pub grant : ℕ
+  pub left : List ℕ
+
+-- what the code's walk hands back
+abbrev pub walkEnd : Walked → WalkEnd
+walkEnd w = record { grant = w .grant; left = w .left }
+
 -- 01: "At a leaf the slot is its grant. At a host the same choice is made among its children .. If there is nobody to take, the slot is idle; hosts
 -- already passed stay charged": what follows a choice, where `onward` is the walk below a host
-unfoldable pub follow : View → (Parent → List ℕ → Walked) → List ℕ → Choice → Walked
-follow v onward left Nobody = record { grant = idle; left = left }
-follow v onward left (Child i) =
+unfoldable pub follow : View → (Parent → List ℕ → WalkEnd) → List ℕ → Pick → WalkEnd
+follow v onward left nobody = record { grant = idle; left = left }
+follow v onward left (just i) =
     cond (v .leaf i) (record { grant = i; left = charge left i }) (onward (Under i) (charge left i))
 
 -- 01: "so the walk goes down at most eight levels": the walk from parent x with so many levels to go
-unfoldable pub walk : View → ℕ → ℕ → Parent → List ℕ → Walked
+unfoldable pub walk : View → ℕ → ℕ → Parent → List ℕ → WalkEnd
 walk v declines zero x left = record { grant = idle; left = left }
 walk v declines (suc levels) x left = follow v (walk v declines levels) left (choose v left declines x)
 
+-- where a slot ends: an answer for each of eight cores, and the counts
+pub record SlotEnd : Type 0 where
+  pub grants : List ℕ
+  pub left : List ℕ
+
+-- what the code has of a slot
+abbrev pub slotEnd : Served → SlotEnd
+slotEnd so = record { grants = so .grants; left = so .left }
+
 -- 01: "For a supplied core": the answers and counts so far, with core s served
-unfoldable pub granting : Served → ℕ → Walked → Served
+unfoldable pub granting : SlotEnd → ℕ → WalkEnd → SlotEnd
 granting so s w = record { grants = set (so .grants) s (w .grant); left = w .left }
 
-unfoldable pub serveCore : View → ℕ → ℕ → Served → ℕ → Served
+unfoldable pub serveCore : View → ℕ → ℕ → SlotEnd → ℕ → SlotEnd
 serveCore v supplied declines so s =
     cond (bitOf supplied s) (granting so s (walk v declines 8 (Supply s) (so .left))) so
 
-unfoldable pub serveTo : View → ℕ → ℕ → Served → ℕ → Served
+unfoldable pub serveTo : View → ℕ → ℕ → SlotEnd → ℕ → SlotEnd
 serveTo v supplied declines so zero = so
 serveTo v supplied declines so (suc k) = serveCore v supplied declines (serveTo v supplied declines so k) k
 
 -- slot n, cores in supply order: the answers, 255 where a core is not supplied, and the counts after it
-unfoldable pub slot : View → ℕ → ℕ → ℕ → ℕ → List ℕ → Served
+unfoldable pub slot : View → ℕ → ℕ → ℕ → ℕ → List ℕ → SlotEnd
 slot v cores n supplied declines left =
     serveTo v supplied declines (record { grants = replicate 8 unsupplied; left = refilled v n left }) cores

@@ -5,7 +5,7 @@ ghost use Prim.Native.Nat.{_<_, _≤_};
 ghost use lib.ListN.{getD};
 ghost use Rattle.plans.specs.Sound.{all, sound};
 ghost use Rattle.dispatch.specs.View.{viewOf};
-ghost use Rattle.dispatch.specs.Slot.{refilled, refillOne, charge};
+ghost use Rattle.dispatch.specs.Slot.{due, refilled, refillOne, charge};
 ghost use Rattle.dispatch.specs.Run.{freshLeft, leftWithin};
 use plans::Plan;
 
@@ -44,12 +44,19 @@ fn refill_one(plan: Plan, n: u64, left: [u16; 64], i: usize) -> [u16; 64]
     requires { ⌜ (sound plan ≡ true) × (i < plan .size) ⌝ }
     ensures { λ r. ⌜ r ≡ refillOne (viewOf plan) n left i ⌝ }
 {
-    let served = plans::node_at(plan, i).served;
     let mut full = left;
-    if n % served.t as u64 == 0 {
-        full[i] = served.c;
+    if is_due(plan, n, i) {
+        full[i] = plans::node_at(plan, i).served.c;
     }
     full
+}
+
+// Whether node i's served period begins at slot n.
+fn is_due(plan: Plan, n: u64, i: usize) -> bool
+    requires { ⌜ (sound plan ≡ true) × (i < plan .size) ⌝ }
+    ensures { λ r. ⌜ r ≡ due (viewOf plan) n i ⌝ }
+{
+    n % plans::node_at(plan, i).served.t as u64 == 0
 }
 
 // Node i, which has slots left, has one less.

@@ -2,7 +2,7 @@
 // fit is refused by number, the state comes back as it was given, and nothing is written. The sentences are in specs/.
 ghost use mathlib.Core.Path.{_≡_};
 ghost use lib.ListN.{length};
-ghost use Rattle.dispatch.specs.Run.{started, ran, outAfter, stepped};
+ghost use Rattle.dispatch.specs.Run.{standing, runEnd, stepEnd, started, ran, outAfter, stepped};
 
 mod counts;
 mod picks;
@@ -61,7 +61,7 @@ pub struct Served {
 
 // A fresh start.
 pub fn fresh(plan: Plan) -> Ran
-    ensures { λ r. ⌜ r ≡ started plan ⌝ }
+    ensures { λ r. ⌜ runEnd r ≡ started plan ⌝ }
 {
     if !rules::is_fit(plan) {
         let none = [0; 64];
@@ -84,8 +84,8 @@ pub fn fresh(plan: Plan) -> Ran
 
 // A run of as many slots as there are supply bytes; each takes its decline word, and its answers go to `out`, slot by slot.
 pub fn run(plan: Plan, state: State, supplies: &[u8], declines: &[u64], out: &mut [u8]) -> Ran
-    ensures result { λ r. ⌜ r ≡ ran plan state (now (supplies .entry)) (now (declines .entry)) (length (now (out .entry))) ⌝ }
-    ensures buffer { λ r. ⌜ now (out .exit) ≡ outAfter plan state (now (supplies .entry)) (now (declines .entry)) (now (out .entry)) ⌝ }
+    ensures result { λ r. ⌜ runEnd r ≡ ran plan (standing state) (now (supplies .entry)) (now (declines .entry)) (length (now (out .entry))) ⌝ }
+    ensures buffer { λ r. ⌜ now (out .exit) ≡ outAfter plan (standing state) (now (supplies .entry)) (now (declines .entry)) (now (out .entry)) ⌝ }
 {
     let outcome = runs::outcome_of(plan, state, supplies.len(), declines.len(), out.len());
     let Outcome::Done = outcome else {
@@ -99,9 +99,9 @@ pub fn run(plan: Plan, state: State, supplies: &[u8], declines: &[u64], out: &mu
 
 // A run of one slot, with its answers by value.
 pub fn step(plan: Plan, state: State, supplied: u8, declines: u64) -> Stepped
-    ensures { λ r. ⌜ r ≡ stepped plan state supplied declines ⌝ }
+    ensures { λ r. ⌜ stepEnd r ≡ stepped plan (standing state) supplied declines ⌝ }
 {
-    let outcome = runs::outcome_of(plan, state, 1, 1, plan.cores);
+    let outcome = runs::outcome_of(plan, state, 1, 1, 8);
     let Outcome::Done = outcome else {
         let none = [255; 8];
         return Stepped {

@@ -2,7 +2,7 @@
 ghost use mathlib.Core.Path.{_≡_};
 ghost use Prim.Native.Nat.{_<_, _≤_};
 ghost use Rattle.dispatch.specs.View.{bitOf, servedT, viewOf};
-ghost use Rattle.dispatch.specs.Choice.{choose, consider, eligible, prefer};
+ghost use Rattle.dispatch.specs.Choice.{picked, choose, consider, eligible, prefer};
 use crate::Choice;
 use plans::Parent;
 use plans::Plan;
@@ -10,7 +10,7 @@ use plans::Plan;
 // The smallest served T, then the lowest number.
 pub fn choice(plan: Plan, left: [u16; 64], declines: u64, x: Parent) -> Choice
     requires { ⌜ plan .size ≤ 64 ⌝ }
-    ensures { λ r. ⌜ r ≡ choose (viewOf plan) left declines x ⌝ }
+    ensures { λ r. ⌜ picked r ≡ choose (viewOf plan) left declines x ⌝ }
 {
     let size = plan.size;
     let mut best = Choice::Nobody;
@@ -32,7 +32,7 @@ fn considered(
     i: usize,
 ) -> Choice
     requires { ⌜ i < 64 ⌝ }
-    ensures { λ r. ⌜ r ≡ consider (viewOf plan) left declines x best i ⌝ }
+    ensures { λ r. ⌜ picked r ≡ consider (viewOf plan) left declines x (picked best) i ⌝ }
 {
     if is_eligible(plan, left, declines, x, i) {
         preferred(plan, best, i)
@@ -42,7 +42,7 @@ fn considered(
 }
 
 fn preferred(plan: Plan, best: Choice, i: usize) -> Choice
-    ensures { λ r. ⌜ r ≡ prefer (viewOf plan) best i ⌝ }
+    ensures { λ r. ⌜ picked r ≡ prefer (viewOf plan) (picked best) i ⌝ }
 {
     match best {
         Choice::Nobody => Choice::Child(i),

@@ -1,13 +1,12 @@
 // The refusals of a run, and its slots one after the other.
 ghost use mathlib.Core.Path.{_≡_};
-ghost use mathlib.Core.Bool.{true, _&&_};
+ghost use mathlib.Core.Bool.{true};
 ghost use mathlib.Core.List.{_++_};
 ghost use Prim.Native.Nat.{_*_, _+_, _^_, _<_, _≤_};
-ghost use lib.Dec.{eqb, leb};
 ghost use lib.ListN.{length, drop};
 ghost use lib.Seq.{paste};
 ghost use Rattle.plans.specs.Sound.{sound};
-ghost use Rattle.dispatch.specs.Run.{course, outcome, ready};
+ghost use Rattle.dispatch.specs.Run.{said, standing, course, outcome, ready, roomy, inTime};
 use crate::Outcome;
 use crate::State;
 use plans::Plan;
@@ -17,13 +16,13 @@ const LIMIT: u64 = 1099511627776;
 
 // 16, then 17, then 15.
 pub fn outcome_of(plan: Plan, state: State, k: usize, declines: usize, room: usize) -> Outcome
-    ensures { λ r. ⌜ r ≡ outcome plan state k declines room ⌝ }
+    ensures { λ r. ⌜ said r ≡ outcome plan (standing state) k declines room ⌝ }
 {
     if !is_ready(plan, state) {
         return Outcome::Unfit;
     }
     let fits = is_roomy(plan, k, declines, room);
-    let ends = is_in_range(state.clock, k);
+    let ends = is_in_time(state.clock, k);
     if !fits {
         return Outcome::Misfit;
     }
@@ -35,7 +34,7 @@ pub fn outcome_of(plan: Plan, state: State, k: usize, declines: usize, room: usi
 
 // Whether plan value and state are fit.
 fn is_ready(plan: Plan, state: State) -> bool
-    ensures { λ r. ⌜ r ≡ ready plan state ⌝ }
+    ensures { λ r. ⌜ r ≡ ready plan (standing state) ⌝ }
 {
     if !rules::is_fit(plan) {
         return false;
@@ -50,15 +49,15 @@ fn is_ready(plan: Plan, state: State) -> bool
 // Whether the inputs are equally long, and there is room for k answers of each supply.
 fn is_roomy(plan: Plan, k: usize, declines: usize, room: usize) -> bool
     requires { ⌜ 0 < plan .cores ⌝ }
-    ensures { λ r. ⌜ r ≡ (eqb k declines && leb (k * plan .cores) room) ⌝ }
+    ensures { λ r. ⌜ r ≡ roomy plan k declines room ⌝ }
 {
     basics::both(k == declines, k <= room / plan.cores)
 }
 
-// Whether k slots from this clock on end within its range.
-fn is_in_range(clock: u64, k: usize) -> bool
+// Whether k slots from this clock on end in time.
+fn is_in_time(clock: u64, k: usize) -> bool
     requires { ⌜ clock ≤ 2 ^ 40 ⌝ }
-    ensures { λ r. ⌜ r ≡ leb (clock + k) (2 ^ 40) ⌝ }
+    ensures { λ r. ⌜ r ≡ inTime clock k ⌝ }
 {
     k as u64 <= LIMIT - clock
 }
@@ -74,9 +73,9 @@ pub fn give(
     requires { ⌜ (sound plan ≡ true) ×
         ((length (now supplies) ≡ length (now declines)) ×
         ((length (now supplies) * plan .cores ≤ length (now out)) × (state .clock + length (now supplies) ≤ 2 ^ 40))) ⌝ }
-    ensures result { λ r. ⌜ r ≡ course plan state (now (supplies .entry)) (now (declines .entry)) .left ⌝ }
+    ensures result { λ r. ⌜ r ≡ course plan (standing state) (now (supplies .entry)) (now (declines .entry)) .left ⌝ }
     ensures buffer { λ r. ⌜ now (out .exit) ≡
-        course plan state (now (supplies .entry)) (now (declines .entry)) .answers ++
+        course plan (standing state) (now (supplies .entry)) (now (declines .entry)) .answers ++
         drop (length (now (supplies .entry)) * plan .cores) (now (out .entry)) ⌝ }
 {
     let k = supplies.len();

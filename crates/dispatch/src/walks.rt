@@ -4,7 +4,7 @@ ghost use mathlib.Core.Bool.{true};
 ghost use Prim.Native.Nat.{_<_};
 ghost use Rattle.plans.specs.Sound.{sound};
 ghost use Rattle.dispatch.specs.View.{viewOf};
-ghost use Rattle.dispatch.specs.Slot.{walk, serveCore, slot};
+ghost use Rattle.dispatch.specs.Slot.{walkEnd, slotEnd, walk, serveCore, slot};
 use crate::Choice;
 use crate::Served;
 use crate::Walked;
@@ -14,7 +14,7 @@ use plans::Plan;
 // Slot n: the answers of its cores in supply order, and the counts after it.
 pub fn serve(plan: Plan, n: u64, supplied: u8, declines: u64, left: [u16; 64]) -> Served
     requires { ⌜ sound plan ≡ true ⌝ }
-    ensures { λ r. ⌜ r ≡ slot (viewOf plan) (plan .cores) n supplied declines left ⌝ }
+    ensures { λ r. ⌜ slotEnd r ≡ slot (viewOf plan) (plan .cores) n supplied declines left ⌝ }
 {
     let cores = plan.cores;
     let full = crate::counts::refill(plan, n, left);
@@ -34,7 +34,7 @@ pub fn serve(plan: Plan, n: u64, supplied: u8, declines: u64, left: [u16; 64]) -
 // Core s, where it is supplied: one grant is replaced.
 fn serve_core(plan: Plan, supplied: u8, declines: u64, so: Served, s: usize) -> Served
     requires { ⌜ (sound plan ≡ true) × (s < 8) ⌝ }
-    ensures { λ r. ⌜ r ≡ serveCore (viewOf plan) supplied declines so s ⌝ }
+    ensures { λ r. ⌜ slotEnd r ≡ serveCore (viewOf plan) supplied declines (slotEnd so) s ⌝ }
 {
     if !crate::picks::is_set(supplied as u64, s) {
         return so;
@@ -50,7 +50,7 @@ fn serve_core(plan: Plan, supplied: u8, declines: u64, so: Served, s: usize) -> 
 // The walk down from parent x: the levels to go fall at each call.
 fn descend(plan: Plan, declines: u64, levels: u8, x: Parent, left: [u16; 64]) -> Walked
     requires { ⌜ sound plan ≡ true ⌝ }
-    ensures { λ r. ⌜ r ≡ walk (viewOf plan) declines levels x left ⌝ }
+    ensures { λ r. ⌜ walkEnd r ≡ walk (viewOf plan) declines levels x left ⌝ }
 {
     if levels == 0 {
         return Walked { grant: 254, left };

@@ -9,10 +9,7 @@ use Rattle.answers.specs.Answers.{accepts}
 use Rattle.plans.specs.Plan.{zeroPlan}
 use Rattle.plans.specs.Sound.{counts, sound}
 use Rattle.rules.specs.Check.{checked, isFit}
-use Rattle.dispatch.specs.Run.{started, ready, outcome, ran, stepped}
-use Rattle.dispatch.specs.declared.State.{State}
-use Rattle.dispatch.specs.declared.Outcome.{Outcome}
-use Rattle.dispatch.specs.declared.Outcome.the-variants.{Unfit}
+use Rattle.dispatch.specs.Run.{Said, refused, Standing, started, ready, outcome, ran, stepped}
 use Rattle.numbers.specs.Numbers.{planOfNumbers, isPlan, isState}
 use Rattle.exports.specs.Exports.{unfitStepped, unfitRan, steppedBy, ranBy, freshening, stepping, running}
 use Rattle.exports.specs.Promises.{BeyondFresh, BeyondStep, BeyondRun}
@@ -28,7 +25,7 @@ module _ (plan : List ℕ) (h : isPlan plan ≡ false) where
   unfolding planOfNumbers
   beyond-unfit = rw h zero-unfit
 
-  beyond-outcome : (s : State) (k declines room : ℕ) → outcome (planOfNumbers plan) s k declines room ≡ Unfit
+  beyond-outcome : (s : Standing) (k declines room : ℕ) → outcome (planOfNumbers plan) s k declines room ≡ refused 16
   unfolding outcome ready
   beyond-outcome s k declines room = rw beyond-unfit
 
@@ -38,23 +35,23 @@ unfolding freshening started
 beyond-fresh plan lent whole h = rw (whole, beyond-unfit plan h)
 
 -- what is unfit by itself, and otherwise wherever the plan is none, is unfit where the plan or the state is none
-unfit-by : {A : Type 0} (said : A → Outcome) (plan state : List ℕ) (given none : A) → said none ≡ Unfit → (isPlan plan ≡ false → said given ≡ Unfit) →
-    (isPlan plan && isState state) ≡ false → said (cond (isState state) given none) ≡ Unfit
+unfit-by : {A : Type 0} (said : A → Said) (plan state : List ℕ) (given none : A) → said none ≡ refused 16 → (isPlan plan ≡ false → said given ≡ refused 16) →
+    (isPlan plan && isState state) ≡ false → said (cond (isState state) given none) ≡ refused 16
 unfit-by said plan state given none always beyond = go (isPlan plan) (isState state) refl
   where
-    go : (a b : Bool) → isPlan plan ≡ a → (a && b) ≡ false → said (cond b given none) ≡ Unfit
+    go : (a b : Bool) → isPlan plan ≡ a → (a && b) ≡ false → said (cond b given none) ≡ refused 16
     go a false e h = always
     go false true e h = beyond e
     go true true e h = cc
 
 -- so that a step
-unfit-step : (plan state : List ℕ) (supplied declines : ℕ) → (isPlan plan && isState state) ≡ false → steppedBy plan state supplied declines .outcome ≡ Unfit
-unfolding steppedBy stepped
+unfit-step : (plan state : List ℕ) (supplied declines : ℕ) → (isPlan plan && isState state) ≡ false → steppedBy plan state supplied declines .outcome ≡ refused 16
+unfolding steppedBy stepped ran
 unfit-step plan state supplied declines = unfit-by (λ r. r .outcome) plan state _ unfitStepped refl (λ e. beyond-outcome plan e _ _ _ _)
 
 -- and a run of values one of which is none
 unfit-run : (plan state supplies declines : List ℕ) (room : ℕ) → (isPlan plan && isState state) ≡ false →
-    ranBy plan state supplies declines room .outcome ≡ Unfit
+    ranBy plan state supplies declines room .outcome ≡ refused 16
 unfolding ranBy ran
 unfit-run plan state supplies declines room = unfit-by (λ r. r .outcome) plan state _ unfitRan refl (λ e. beyond-outcome plan e _ _ _ _)
 

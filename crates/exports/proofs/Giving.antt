@@ -10,7 +10,7 @@ use types.Run.{miss}
 use Rattle.plans.specs.declared.Plan.{Plan}
 use Rattle.plans.proofs.All.{right-true}
 use Rattle.dispatch.specs.Slot.{unsupplied}
-use Rattle.dispatch.specs.Run.{zeroState, started, ran, outAfter, stepped, said}
+use Rattle.dispatch.specs.Run.{refused, said, standing, runEnd, stepEnd, zeroState, started, ran, outAfter, stepped}
 use Rattle.dispatch.specs.declared.State.{State}
 use Rattle.dispatch.specs.declared.Outcome.{Outcome}
 use Rattle.dispatch.specs.declared.Outcome.the-variants.{Done, Beyond, Unfit, Misfit}
@@ -35,28 +35,28 @@ use Rattle.exports.specs.Exports.{
 }
 
 -- a step and a run of a state that is given as numbers
-module _ (plan state : List ℕ) (g : Given) (e : g ≡ stateGiven state) where
+module _ (plan state : List ℕ) (g : Given) (e : (g .fit, standing (g .state)) ≡ stateGiven state) where
   told : isState state ≡ g .fit
   unfolding stateGiven
-  told = sym (ap (λ x. x .fit) e)
+  told = sym (ap (λ x. x .0) e)
 
-  says : g .state ≡ stateOfNumbers state
+  says : standing (g .state) ≡ stateOfNumbers state
   unfolding stateGiven
-  says = ap (λ x. x .state) e
+  says = ap (λ x. x .1) e
 
   module _ (h : g .fit ≡ false) where
-    zeros : g .state ≡ zeroState
+    zeros : standing (g .state) ≡ zeroState
     unfolding stateOfNumbers
     zeros = says ∙ rw (told ∙ h)
 
     -- a step from numbers that are no state's is refused, with answers of 255
     pub step-unfit : (supplied declines : ℕ) →
-        record { outcome = Unfit; state = g .state; grants = replicate 8 unsupplied } ≡ steppedBy plan state supplied declines
+        record { outcome = refused 16; state = standing (g .state); grants = replicate 8 unsupplied } ≡ steppedBy plan state supplied declines
     unfolding steppedBy
     step-unfit supplied declines = rw (told ∙ h, zeros)
 
     -- and so is a run
-    pub run-unfit : (supplies declines : List ℕ) (room : ℕ) → record { outcome = Unfit; state = g .state } ≡ ranBy plan state supplies declines room
+    pub run-unfit : (supplies declines : List ℕ) (room : ℕ) → record { outcome = refused 16; state = standing (g .state) } ≡ ranBy plan state supplies declines room
     unfolding ranBy
     run-unfit supplies declines room = rw (told ∙ h, zeros)
 
@@ -67,18 +67,18 @@ module _ (plan state : List ℕ) (g : Given) (e : g ≡ stateGiven state) where
 
   module _ (h : g .fit ≡ true) (p : Plan) (is : p ≡ planOfNumbers plan) where
     -- a step from a state's numbers is the step of the values
-    pub step-given : (supplied declines : ℕ) (r : Stepped) → r ≡ stepped p (g .state) supplied declines → r ≡ steppedBy plan state supplied declines
+    pub step-given : (supplied declines : ℕ) (r : Stepped) → stepEnd r ≡ stepped p (standing (g .state)) supplied declines → stepEnd r ≡ steppedBy plan state supplied declines
     unfolding steppedBy
     step-given supplied declines r k = rw (told ∙ h, ← is, ← says) k
 
     -- a run from them is the run of the values
-    pub run-given : (supplies declines : List ℕ) (room : ℕ) (r : Ran) → r ≡ ran p (g .state) supplies declines room →
-        r ≡ ranBy plan state supplies declines room
+    pub run-given : (supplies declines : List ℕ) (room : ℕ) (r : Ran) → runEnd r ≡ ran p (standing (g .state)) supplies declines room →
+        runEnd r ≡ ranBy plan state supplies declines room
     unfolding ranBy
     run-given supplies declines room r k = rw (told ∙ h, ← is, ← says) k
 
     -- and so is what it leaves in the room
-    pub room-given : (supplies declines out after : List ℕ) → after ≡ outAfter p (g .state) supplies declines out →
+    pub room-given : (supplies declines out after : List ℕ) → after ≡ outAfter p (standing (g .state)) supplies declines out →
         after ≡ outBy plan state supplies declines out
     unfolding outBy
     room-given supplies declines out after k = rw (told ∙ h, ← is, ← says) k
@@ -96,12 +96,12 @@ module _ (plan state : List ℕ) (b : Bool) (e : b ≡ areWhole plan state) wher
   fresh-misfit h x l = rw (sym e ∙ h, l)
 
   -- and where they are it lays its state down, whatever its outcome
-  pub fresh-laid : b ≡ true → (p : Plan) → p ≡ planOfNumbers plan → (r : Ran) → r ≡ started p →
-      (d : Bool) (after : List ℕ) → (d, after) ≡ stateLaid (r .state) state → (x : ℕ) → x ≡ outcomeOf (said (r .outcome)) → (x, after) ≡ freshening plan state
+  pub fresh-laid : b ≡ true → (p : Plan) → p ≡ planOfNumbers plan → (r : Ran) → runEnd r ≡ started p →
+      (d : Bool) (after : List ℕ) → (d, after) ≡ stateLaid (standing (r .state)) state → (x : ℕ) → x ≡ outcomeOf (said (r .outcome)) → (x, after) ≡ freshening plan state
   unfolding freshening
   fresh-laid h p says r is d after laid x l =
       let down = state-down (r .state) state (whole-state h) d after laid in
-      rw (sym e ∙ h, down, l, is, says)
+      rw (sym e ∙ h, down, l, ← says, ← is)
 
   -- a run leaves state and room as they were,
   pub run-misfit : b ≡ false → (x : ℕ) → x ≡ refusal 17 placeless → (supplies declines out : List ℕ) → (x, state, out) ≡ running plan state supplies declines out
@@ -109,14 +109,14 @@ module _ (plan state : List ℕ) (b : Bool) (e : b ≡ areWhole plan state) wher
   run-misfit h x l supplies declines out = rw (sym e ∙ h, l)
 
   -- or keeps its state and fills its room
-  pub run-told : b ≡ true → (supplies declines out : List ℕ) (r : Ran) → r ≡ ranBy plan state supplies declines (length out) →
+  pub run-told : b ≡ true → (supplies declines out : List ℕ) (r : Ran) → runEnd r ≡ ranBy plan state supplies declines (length out) →
       (told : List ℕ) → told ≡ outBy plan state supplies declines out →
-      (x : ℕ) (after : List ℕ) → (x, after) ≡ keeping (said (r .outcome)) (r .state) state → (x, after, told) ≡ running plan state supplies declines out
+      (x : ℕ) (after : List ℕ) → (x, after) ≡ keeping (said (r .outcome)) (standing (r .state)) state → (x, after, told) ≡ running plan state supplies declines out
   unfolding running
   run-told h supplies declines out r is told l x after kept =
       let answer : x ≡ _ = ap (λ y. y .0) kept in
       let laid : after ≡ _ = ap (λ y. y .1) kept in
-      rw (sym e ∙ h, answer, laid, l, is)
+      rw (sym e ∙ h, answer, laid, l, ← is)
 
   -- a step leaves state and answers as they were,
   module _ (supplied declines : ℕ) (grants : List ℕ) where
@@ -130,22 +130,22 @@ module _ (plan state : List ℕ) (b : Bool) (e : b ≡ areWhole plan state) wher
     grants-misfit h other x l = rw (sym e ∙ h, ne-eqb (length grants) 8 other, l)
 
     -- or keeps its state and lays its answers down
-    pub step-told : b ≡ true → length grants ≡ 8 → (r : Stepped) → r ≡ steppedBy plan state supplied declines → (told : List ℕ) → told ≡ r .grants →
-        (x : ℕ) (after : List ℕ) → (x, after) ≡ keeping (said (r .outcome)) (r .state) state → (x, after, told) ≡ stepping plan state supplied declines grants
+    pub step-told : b ≡ true → length grants ≡ 8 → (r : Stepped) → stepEnd r ≡ steppedBy plan state supplied declines → (told : List ℕ) → told ≡ r .grants →
+        (x : ℕ) (after : List ℕ) → (x, after) ≡ keeping (said (r .outcome)) (standing (r .state)) state → (x, after, told) ≡ stepping plan state supplied declines grants
     unfolding stepping
     step-told h eight r is told l x after kept =
         let answer : x ≡ _ = ap (λ y. y .0) kept in
         let laid : after ≡ _ = ap (λ y. y .1) kept in
-        rw (sym e ∙ h, eq-eqb (length grants) 8 eight, answer, laid, l, is)
+        rw (sym e ∙ h, eq-eqb (length grants) 8 eight, answer, laid, l, ← is)
 
 -- a refusal leaves the state as it was
-pub keep-refused : (o : Outcome) → Refusal o → (after : State) (lent : List ℕ) (x : ℕ) → x ≡ outcomeOf (said o) → (x, lent) ≡ keeping (said o) after lent
+pub keep-refused : (o : Outcome) → Refusal o → (after : State) (lent : List ℕ) (x : ℕ) → x ≡ outcomeOf (said o) → (x, lent) ≡ keeping (said o) (standing after) lent
 keep-refused Done h after lent x e = absurd (miss (1 ∷ 2 ∷ 3 ∷ []) 0 tt h)
 keep-refused Beyond h after lent x e = rw e
 keep-refused Unfit h after lent x e = rw e
 keep-refused Misfit h after lent x e = rw e
 
 -- and what is done lays its state down
-pub keep-done : (o : Outcome) → o ≡ Done → (after : State) (lent : List ℕ) → length lent ≡ 65 → (d : Bool) (now : List ℕ) → (d, now) ≡ stateLaid after lent →
-    (0, now) ≡ keeping (said o) after lent
+pub keep-done : (o : Outcome) → o ≡ Done → (after : State) (lent : List ℕ) → length lent ≡ 65 → (d : Bool) (now : List ℕ) → (d, now) ≡ stateLaid (standing after) lent →
+    (0, now) ≡ keeping (said o) (standing after) lent
 keep-done o h after lent whole d now e = rw (h, state-down after lent whole d now e)

@@ -16,13 +16,8 @@ use Rattle.rules.specs.Check.{isFit}
 use Rattle.reader.specs.Read.{readPlan}
 use Rattle.reader.proofs.Kept.{refused-gives-zeros}
 use Rattle.dispatch.specs.Slot.{unsupplied}
-use Rattle.dispatch.specs.Run.{outcome, Course, outBy, ran, outAfter, grantsBy, stepped, started}
+use Rattle.dispatch.specs.Run.{Said, done, Standing, RunEnd, StepEnd, outcome, Course, outBy, ran, outAfter, stepped, started}
 use Rattle.dispatch.specs.Run as runs
-use Rattle.dispatch.specs.declared.State.{State}
-use Rattle.dispatch.specs.declared.Ran.{Ran}
-use Rattle.dispatch.specs.declared.Stepped.{Stepped}
-use Rattle.dispatch.specs.declared.Outcome.{Outcome}
-use Rattle.dispatch.specs.declared.Outcome.the-variants.{Done, Beyond, Unfit, Misfit}
 use Rattle.numbers.specs.Numbers.{planNumbers, planOfNumbers, stateNumbers, stateOfNumbers, isState}
 use Rattle.numbers.proofs.Laid.{zeros-laid}
 use Rattle.exports.specs.Exports as exports
@@ -83,42 +78,38 @@ refused-run plan state supplies declines out =
     p : Plan
     p = planOfNumbers plan
 
-    s : State
+    s : Standing
     s = stateOfNumbers state
 
-    go : (a f : Bool) (o : Outcome) (after : State) (n : ℕ) (c : Course) →
-        let r : Ran = cond f (record { outcome = o; state = after }) exports.unfitRan in
-        let kept = keeping (runs.said (r .outcome)) (r .state) state in
+    go : (a f : Bool) (o : Said) (after : Standing) (n : ℕ) (c : Course) →
+        let r : RunEnd = cond f (record { outcome = o; state = after }) exports.unfitRan in
+        let kept = keeping (r .outcome) (r .state) state in
         let w : ℕ × List ℕ × List ℕ = cond a (kept .0, kept .1, cond f (outBy o n c out) out) (misfit, state, out) in
         (w .0 ≡ 0 → ⊥) → (w .1 ≡ state) × (w .2 ≡ out)
-    go true true Done after n c h = absurd (h refl)
-    go true true Beyond after n c h = (refl, refl)
-    go true true Unfit after n c h = (refl, refl)
-    go true true Misfit after n c h = (refl, refl)
+    go true true done after n c h = absurd (h refl)
+    go true true (runs.refused r) after n c h = (refl, refl)
     go true false o after n c h = (refl, refl)
     go false f o after n c h = (refl, refl)
 
 -- steps
 pub refused-step : RefusedStep
-unfolding stepping steppedBy stepped
+unfolding stepping steppedBy stepped ran outAfter
 refused-step plan state supplied declines grants whole eight =
-    rw (whole, eq-eqb (length grants) 8 eight) (go (isState state) (outcome p s 1 1 (p .cores)) _ _)
+    rw (whole, eq-eqb (length grants) 8 eight) (go (isState state) (outcome p s 1 1 8) _ _ _)
   where
     p : Plan
     p = planOfNumbers plan
 
-    s : State
+    s : Standing
     s = stateOfNumbers state
 
-    go : (f : Bool) (o : Outcome) (after : State) (given : List ℕ) →
-        let r : Stepped = cond f (record { outcome = o; state = after; grants = grantsBy o given }) exports.unfitStepped in
-        let kept = keeping (runs.said (r .outcome)) (r .state) state in
+    go : (f : Bool) (o : Said) (after : Standing) (n : ℕ) (c : Course) →
+        let r : StepEnd = cond f (record { outcome = o; state = after; grants = outBy o n c (replicate 8 unsupplied) }) exports.unfitStepped in
+        let kept = keeping (r .outcome) (r .state) state in
         (kept .0 ≡ 0 → ⊥) → (kept .1 ≡ state) × (r .grants ≡ replicate 8 unsupplied)
-    go true Done after given h = absurd (h refl)
-    go true Beyond after given h = (refl, refl)
-    go true Unfit after given h = (refl, refl)
-    go true Misfit after given h = (refl, refl)
-    go false o after given h = (refl, refl)
+    go true done after n c h = absurd (h refl)
+    go true (runs.refused r) after n c h = (refl, refl)
+    go false o after n c h = (refl, refl)
 
 -- reads
 pub refused-read : RefusedRead
@@ -135,7 +126,7 @@ unfolding freshening started stateNumbers
 refused-fresh plan lent whole = rw whole (go (isFit (planOfNumbers plan)) _)
   where
     go : (f : Bool) (left : List ℕ) →
-        let r : Ran = cond f (record { outcome = Done; state = record { clock = 0; left = left } }) exports.unfitRan in
-        (exports.outcomeOf (runs.said (r .outcome)) ≡ 0 → ⊥) → stateNumbers (r .state) ≡ replicate 65 0
+        let r : RunEnd = cond f (record { outcome = done; state = record { clock = 0; left = left } }) exports.unfitRan in
+        (exports.outcomeOf (r .outcome) ≡ 0 → ⊥) → stateNumbers (r .state) ≡ replicate 65 0
     go true left h = absurd (h refl)
     go false left h = refl

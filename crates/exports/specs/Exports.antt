@@ -19,12 +19,8 @@ use Rattle.answers.specs.declared.Answer.the-variants.{Accepted, Refused}
 use Rattle.decode.specs.Positions.{nameStart}
 use Rattle.reader.specs.Read.{readPlan, nameOf}
 use Rattle.dispatch.specs.Slot.{unsupplied}
-use Rattle.dispatch.specs.Run.{zeroState, started, ran, stepped, said}
+use Rattle.dispatch.specs.Run.{Standing, RunEnd, StepEnd, zeroState, started, ran, stepped}
 use Rattle.dispatch.specs.Run as runs
-use Rattle.dispatch.specs.declared.State.{State}
-use Rattle.dispatch.specs.declared.Outcome.the-variants.{Unfit}
-use Rattle.dispatch.specs.declared.Ran.{Ran}
-use Rattle.dispatch.specs.declared.Stepped.{Stepped}
 use Rattle.numbers.specs.Numbers.{planNumbers, planOfNumbers, stateNumbers, stateOfNumbers, isState}
 
 -- A refusal: its number in the low half, its place in the high half. A place that the half does not hold, or none, is `placeless`; no read has one that
@@ -109,18 +105,18 @@ outcomeOf (runs.refused r) = refusal r placeless
 
 -- Numbers out of their fields are answered as an unfit value is, by 16 (Promises). A plan's say the plan value of zeros, which is not fit. A state's say
 -- one of zeros, which may be, so they are told apart here.
-abbrev pub unfitRan : Ran
-unfitRan = record { outcome = Unfit; state = zeroState }
+abbrev pub unfitRan : RunEnd
+unfitRan = record { outcome = runs.refused 16; state = zeroState }
 
-abbrev pub unfitStepped : Stepped
-unfitStepped = record { outcome = Unfit; state = zeroState; grants = replicate 8 unsupplied }
+abbrev pub unfitStepped : StepEnd
+unfitStepped = record { outcome = runs.refused 16; state = zeroState; grants = replicate 8 unsupplied }
 
 -- a step, a run and its room, of the values that the numbers say
-unfoldable pub steppedBy : List ℕ → List ℕ → ℕ → ℕ → Stepped
+unfoldable pub steppedBy : List ℕ → List ℕ → ℕ → ℕ → StepEnd
 steppedBy plan state supplied declines =
     cond (isState state) (stepped (planOfNumbers plan) (stateOfNumbers state) supplied declines) unfitStepped
 
-unfoldable pub ranBy : List ℕ → List ℕ → List ℕ → List ℕ → ℕ → Ran
+unfoldable pub ranBy : List ℕ → List ℕ → List ℕ → List ℕ → ℕ → RunEnd
 ranBy plan state supplies declines room =
     cond (isState state) (ran (planOfNumbers plan) (stateOfNumbers state) supplies declines room) unfitRan
 
@@ -129,7 +125,7 @@ outBy plan state supplies declines out =
     cond (isState state) (runs.outAfter (planOfNumbers plan) (stateOfNumbers state) supplies declines out) out
 
 -- 01: a refusal "hands back the given state": it is written only where the call was done
-abbrev pub keeping : runs.Said → State → List ℕ → ℕ × List ℕ
+abbrev pub keeping : runs.Said → Standing → List ℕ → ℕ × List ℕ
 keeping runs.done after lent = (0, stateNumbers after)
 keeping (runs.refused r) after lent = (refusal r placeless, lent)
 
@@ -141,18 +137,18 @@ areWhole plan state = eqb (length plan) 404 && eqb (length state) 65
 unfoldable pub freshening : List ℕ → List ℕ → ℕ × List ℕ
 freshening plan lent =
     let s = started (planOfNumbers plan) in
-    cond (areWhole plan lent) (outcomeOf (said (s .outcome)), stateNumbers (s .state)) (misfit, lent)
+    cond (areWhole plan lent) (outcomeOf (s .outcome), stateNumbers (s .state)) (misfit, lent)
 
 -- mettulos_step: the state, and the eight answers, which are 255 where it is refused
 unfoldable pub stepping : List ℕ → List ℕ → ℕ → ℕ → List ℕ → ℕ × List ℕ × List ℕ
 stepping plan state supplied declines grants =
     let s = steppedBy plan state supplied declines in
-    let kept = keeping (said (s .outcome)) (s .state) state in
+    let kept = keeping (s .outcome) (s .state) state in
     cond (areWhole plan state && eqb (length grants) 8) (kept .0, kept .1, s .grants) (misfit, state, grants)
 
 -- mettulos_run: the state, and the room with the answers at its front
 unfoldable pub running : List ℕ → List ℕ → List ℕ → List ℕ → List ℕ → ℕ × List ℕ × List ℕ
 running plan state supplies declines out =
     let s = ranBy plan state supplies declines (length out) in
-    let kept = keeping (said (s .outcome)) (s .state) state in
+    let kept = keeping (s .outcome) (s .state) state in
     cond (areWhole plan state) (kept .0, kept .1, outBy plan state supplies declines out) (misfit, state, out)

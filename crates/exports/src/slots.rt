@@ -1,7 +1,7 @@
 // Giving out slots from numbers: those out of their fields are answered as an unfit value is.
 ghost use mathlib.Core.Path.{_≡_};
 ghost use lib.ListN.{length};
-ghost use Rattle.dispatch.specs.Run.{said};
+ghost use Rattle.dispatch.specs.Run.{said, standing, runEnd, stepEnd};
 ghost use Rattle.exports.specs.Exports.{areWhole, steppedBy, ranBy, outBy, keeping};
 use dispatch::Outcome;
 use dispatch::Ran;
@@ -17,7 +17,7 @@ pub fn are_whole(plan: &[u32], state: &[u64]) -> bool
 
 // One slot, of the values that the numbers say. What state an unfit step hands back does not matter: it is not laid down.
 pub fn step(plan: &[u32], state: &[u64], supplied: u8, declines: u64) -> Stepped
-    ensures { λ r. ⌜ r ≡ steppedBy (now (plan .entry)) (now (state .entry)) supplied declines ⌝ }
+    ensures { λ r. ⌜ stepEnd r ≡ steppedBy (now (plan .entry)) (now (state .entry)) supplied declines ⌝ }
 {
     let given = numbers::state_of(state);
     let before = given.state;
@@ -34,7 +34,7 @@ pub fn step(plan: &[u32], state: &[u64], supplied: u8, declines: u64) -> Stepped
 
 // A run, in the same way.
 pub fn run(plan: &[u32], state: &[u64], supplies: &[u8], declines: &[u64], out: &mut [u8]) -> Ran
-    ensures result { λ r. ⌜ r ≡ ranBy (now (plan .entry)) (now (state .entry)) (now (supplies .entry)) (now (declines .entry)) (length (now (out .entry))) ⌝ }
+    ensures result { λ r. ⌜ runEnd r ≡ ranBy (now (plan .entry)) (now (state .entry)) (now (supplies .entry)) (now (declines .entry)) (length (now (out .entry))) ⌝ }
     ensures buffer { λ r. ⌜ now (out .exit) ≡
         outBy (now (plan .entry)) (now (state .entry)) (now (supplies .entry)) (now (declines .entry)) (now (out .entry)) ⌝ }
 {
@@ -64,7 +64,7 @@ pub fn put_grants(answers: [u8; 8], out: &mut [u8])
 // What a step or a run answers. The state is laid down where it was done, and else left as it was.
 pub fn keep(outcome: Outcome, after: State, state: &mut [u64]) -> u64
     requires { ⌜ length (now state) ≡ 65 ⌝ }
-    ensures { λ r. ⌜ (r, now (state .exit)) ≡ keeping (said outcome) after (now (state .entry)) ⌝ }
+    ensures { λ r. ⌜ (r, now (state .exit)) ≡ keeping (said outcome) (standing after) (now (state .entry)) ⌝ }
 {
     let Outcome::Done = outcome else {
         return crate::refusals::of_outcome(outcome);

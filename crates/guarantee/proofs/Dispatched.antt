@@ -12,8 +12,7 @@ use Rattle.plans.specs.declared.Parent.{Parent}
 use Rattle.plans.specs.declared.Plan.{Plan}
 use Rattle.rules.specs.Fit.{Fit, Child}
 use Rattle.dispatch.specs.View.{View, viewOf, bitOf, isLeaf, servedT}
-use Rattle.dispatch.specs.Choice.{choose}
-use Rattle.dispatch.specs.declared.Choice.the-variants.{Child as Picked}
+use Rattle.dispatch.specs.Choice.{nobody, just, choose}
 use Rattle.dispatch.proofs.Choices.{some-choice, eligible-child, choice-below, choice-under, choice-left, choice-first}
 use Rattle.unending.specs.Unending.{has, charged, may}
 use Rattle.unending.proofs.Slots.{startAt}
@@ -66,7 +65,7 @@ module _ (plan : Plan) (fit : Fit plan) (supply declines : ℕ → ℕ) where
         left : List ℕ
         left = startAt plan supply declines n
 
-        picked : (k : ℕ) → Child plan x k → choose v left (declines n) x ≡ Picked k → charged plan supply declines k n ≡ true
+        picked : (k : ℕ) → Child plan x k → choose v left (declines n) x ≡ just k → charged plan supply declines k n ≡ true
         picked k d e =
             charged-exactly plan fit supply declines k n (d .there) .1
             (ap (λ y. may plan supply declines y n) (d .under) ∙ o .given, ap (choose v left (declines n)) (d .under) ∙ e)

@@ -24,12 +24,9 @@ use Rattle.reader.specs.Read.{nameOf}
 use Rattle.dispatch.proofs.Choices.{choice-below}
 use Rattle.dispatch.proofs.SlotsFresh.{replicate-everywhere}
 use Rattle.dispatch.specs.View.{View, bitOf, viewOf}
-use Rattle.dispatch.specs.Choice.{choose}
-use Rattle.dispatch.specs.Slot.{charge, refilled, follow, walk, granting, serveCore, serveTo, slot}
+use Rattle.dispatch.specs.Choice.{Pick, nobody, just, choose}
+use Rattle.dispatch.specs.Slot.{SlotEnd, charge, refilled, follow, walk, granting, serveCore, serveTo, slot}
 use Rattle.dispatch.specs.Run.{started, courseTo, course}
-use Rattle.dispatch.specs.declared.Choice.{Choice}
-use Rattle.dispatch.specs.declared.Choice.the-variants.{Nobody, Child}
-use Rattle.dispatch.specs.declared.Served.{Served}
 use Rattle.listing.proofs.SlotLines.{begins-most}
 use Rattle.layout.specs.Layout.{lays}
 use Rattle.listing.specs.Text.{digits, decimal, above, depthTo, depthOf, leastOf, nodeLine}
@@ -131,19 +128,19 @@ module _ (v : View) (few : v .size ≤ 64) (declines : ℕ) where
       onward i true l before = leaf-brief i l
       onward i false l before = before (Under i) (charge left i)
 
-      go : (w : Choice) → choose v left declines x ≡ w → ((x : Parent) (left : List ℕ) → Brief (walk v declines levels x left .grant)) →
+      go : (w : Pick) → choose v left declines x ≡ w → ((x : Parent) (left : List ℕ) → Brief (walk v declines levels x left .grant)) →
           Brief (follow v (walk v declines levels) left w .grant)
-      go Nobody e before = idle-brief
-      go (Child i) e before = onward i (v .leaf i) (omega (arith, choice-below v left declines x i e)) before
+      go nobody e before = idle-brief
+      go (just i) e before = onward i (v .leaf i) (omega (arith, choice-below v left declines x i e)) before
 
   -- so each answer of a slot,
-  serve-brief : (supplied : ℕ) (so : Served) → Each Brief 255 unsupplied-brief (so .grants) → (k : ℕ) →
+  serve-brief : (supplied : ℕ) (so : SlotEnd) → Each Brief 255 unsupplied-brief (so .grants) → (k : ℕ) →
       Each Brief 255 unsupplied-brief (serveTo v supplied declines so k .grants)
   unfolding serveTo serveCore granting
   serve-brief supplied so h zero = h
   serve-brief supplied so h (suc k) = go (bitOf supplied k) (serve-brief supplied so h k)
     where
-      before : Served
+      before : SlotEnd
       before = serveTo v supplied declines so k
 
       go : (b : Bool) → Each Brief 255 unsupplied-brief (before .grants) →
@@ -154,7 +151,7 @@ module _ (v : View) (few : v .size ≤ 64) (declines : ℕ) where
   slot-brief : (cores n supplied : ℕ) (left : List ℕ) → Each Brief 255 unsupplied-brief (slot v cores n supplied declines left .grants)
   unfolding slot
   slot-brief cores n supplied left =
-      let start : Served = record { grants = replicate 8 255; left = refilled v n left } in
+      let start : SlotEnd = record { grants = replicate 8 255; left = refilled v n left } in
       serve-brief supplied start (λ k. rw (replicate-everywhere 8 k 255) unsupplied-brief) cores
 
 -- and of a run

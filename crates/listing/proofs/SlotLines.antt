@@ -23,9 +23,7 @@ use Rattle.dispatch.proofs.Refusals.{fits-sound}
 use Rattle.dispatch.proofs.Running.{length-answers}
 use Rattle.dispatch.proofs.SlotsFresh.{fresh-count}
 use Rattle.dispatch.specs.View.{viewOf, servedC}
-use Rattle.dispatch.specs.Run.{freshLeft, started, leftWithin, ready, outcome, course, outAfter}
-use Rattle.dispatch.specs.declared.Outcome.the-variants.{Done}
-use Rattle.dispatch.specs.declared.State.{State}
+use Rattle.dispatch.specs.Run.{done, Standing, standing, runEnd, freshLeft, freshState, started, leftWithin, ready, roomy, inTime, outcome, course, outAfter}
 use Rattle.dispatch.specs.declared.Ran.{Ran}
 use Rattle.listing.proofs.Pages.{put-then, lays-ext, room-first, room-then, room-byte}
 use Rattle.listing.specs.Page.{Put}
@@ -72,17 +70,14 @@ module _ (plan : Plan) (fitting : isFit plan ≡ true) where
   kept : Sound plan
   kept = sound-kept plan (fits-sound plan fitting)
 
-  opening : State
-  opening = record { clock = 0; left = freshLeft (viewOf plan) }
-
   -- a fresh start is done
-  fresh-given : started plan ≡ record { outcome = Done; state = opening }
-  unfolding started opening
+  fresh-given : started plan ≡ record { outcome = done; state = freshState plan }
+  unfolding started
   fresh-given = rw fitting
 
   -- and its state is fit
-  fresh-ready : ready plan opening ≡ true
-  unfolding ready leftWithin servedC opening
+  fresh-ready : ready plan (freshState plan) ≡ true
+  unfolding ready leftWithin servedC
   fresh-ready =
       rw (
         fitting,
@@ -91,16 +86,16 @@ module _ (plan : Plan) (fitting : isFit plan ≡ true) where
       )
 
   -- so the run is done,
-  run-done : outcome plan opening 8 8 64 ≡ Done
-  unfolding outcome opening
+  run-done : outcome plan (freshState plan) 8 8 64 ≡ done
+  unfolding outcome roomy inTime
   run-done = rw (fresh-ready, le-leb (8 * plan .cores) 64 (omega (arith, kept .eight-cores)))
 
   -- and the buffer has its answers in front
-  pub slots-given : (f : Ran) → f ≡ started plan → (out after : List ℕ) → length out ≡ 64 →
-      after ≡ outAfter plan (f .state) (replicate 8 255) (replicate 8 0) out → after ≡ answers plan ++ drop (8 * plan .cores) out
+  pub slots-given : (f : Ran) → runEnd f ≡ started plan → (out after : List ℕ) → length out ≡ 64 →
+      after ≡ outAfter plan (standing (f .state)) (replicate 8 255) (replicate 8 0) out → after ≡ answers plan ++ drop (8 * plan .cores) out
   unfolding outAfter answers
   slots-given f e out after long h =
-      (rw (e, fresh-given, long, run-done) at h)
+      (rw (ap (λ r. r .state) (e ∙ fresh-given), long, run-done) at h)
       ∙ ap (λ r. course plan (r .state) (replicate 8 255) (replicate 8 0) .answers ++ drop (8 * plan .cores) out) (sym fresh-given)
 
   length-of-answers : length (answers plan) ≡ 8 * plan .cores

@@ -1,6 +1,6 @@
 -- The numbers of a state: whether they are within their fields, and what they say. One law a return. Assumes nothing.
 use Prim.Native.Nat.{ℕ, _+_, _≤_, _<_}
-use mathlib.Core.Bool.{true, false}
+use mathlib.Core.Bool.{Bool, true, false}
 use mathlib.Core.List.{List}
 use mathlib.Core.Path.{_≡_, refl, sym}
 use lib.ListN.{length, getD, replicate}
@@ -9,12 +9,11 @@ use Rattle.plans.specs.Sound.{all}
 use Rattle.plans.proofs.All.{all-stop, all-more, all-done}
 use Rattle.decode.specs.Decode.{filled}
 use Rattle.decode.proofs.Filled.{filled-done}
-use Rattle.dispatch.specs.Run.{zeroState}
-use Rattle.numbers.specs.Numbers.{countIn, isCountAt, isState, stateIn, stateOfNumbers, stateGiven}
-use Rattle.numbers.specs.declared.Given.{Given}
+use Rattle.dispatch.specs.Run.{Standing}
+use Rattle.numbers.specs.Numbers.{noState, countIn, isCountAt, isState, stateIn, stateOfNumbers, stateGiven}
 
 -- what is given of numbers that are no state's
-module _ (xs : List ℕ) (g : Given) (none : g ≡ record { fit = false; state = zeroState }) where
+module _ (xs : List ℕ) (g : Bool × Standing) (none : g ≡ noState) where
   unfit : isState xs ≡ false → g ≡ stateGiven xs
   unfolding stateGiven stateOfNumbers
   unfit h = rw h none
@@ -40,7 +39,7 @@ module _ (xs : List ℕ) (i : ℕ) (e : all (isCountAt xs) i ≡ true) where
 
   -- past the last the numbers are a state's
   pub counts-done : length xs ≡ 65 → i ≤ 64 → 64 ≤ i → (left : List ℕ) → left ≡ filled (countIn xs) (replicate 64 0) i →
-      record { fit = true; state = record { clock = getD xs 0 0; left = left } } ≡ stateGiven xs
+      (true, record { clock = getD xs 0 0; left = left }) ≡ stateGiven xs
   unfolding stateGiven isState stateOfNumbers stateIn
   counts-done whole l h left filling =
       rw (eq-eqb (length xs) 65 whole, ← all-done (isCountAt xs) i e 64 l h, filled-done (countIn xs) (replicate 64 0) left i filling 64 l h)

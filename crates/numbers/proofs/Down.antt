@@ -8,6 +8,7 @@ use lib.ListN.{length, set, take, length-set, drop-of-length-le}
 use lib.Seq.{paste, take-all, take-suc-set}
 use borrow.Author.Tests.{le-leb, lt-leb, eq-eqb, ne-eqb}
 use Rattle.plans.specs.declared.Plan.{Plan}
+use Rattle.dispatch.specs.Run.{standing}
 use Rattle.dispatch.specs.declared.State.{State}
 use Rattle.numbers.specs.Numbers.{planNumbers, planLaid, stateNumbers, stateLaid}
 
@@ -40,13 +41,13 @@ module _ (plan : Plan) (l : List ℕ) where
 
 -- nor is a state in another number than 65,
 module _ (state : State) (l : List ℕ) where
-  pub state-unlaid : (length l ≡ 65 → ⊥) → (false, l) ≡ stateLaid state l
+  pub state-unlaid : (length l ≡ 65 → ⊥) → (false, l) ≡ stateLaid (standing state) l
   unfolding stateLaid
   state-unlaid h = rw (ne-eqb (length l) 65 h)
 
   -- and otherwise it is: a clock and 64 counts take up all 65
   pub state-put : length l ≡ 65 → length (state .left) ≡ 64 → (r : List ℕ) → r ≡ paste (set l 0 (state .clock)) 1 (state .left) 64 →
-      (true, r) ≡ stateLaid state l
+      (true, r) ≡ stateLaid (standing state) l
   unfolding stateLaid stateNumbers
   state-put whole counts r e =
       let long : length (set l 0 (state .clock)) ≡ 65 = length-set l 0 (state .clock) ∙ whole in
@@ -59,6 +60,6 @@ module _ (state : State) (l : List ℕ) where
       rw (eq-eqb (length l) 65 whole, all)
 
   -- so that a caller that has seen to the length finds it laid down
-  pub state-down : length l ≡ 65 → (b : Bool) (r : List ℕ) → (b, r) ≡ stateLaid state l → r ≡ stateNumbers state
+  pub state-down : length l ≡ 65 → (b : Bool) (r : List ℕ) → (b, r) ≡ stateLaid (standing state) l → r ≡ stateNumbers (standing state)
   unfolding stateLaid
   state-down whole b r e = ap (λ x. x .1) (rw (eq-eqb (length l) 65 whole) at e)

@@ -18,7 +18,7 @@ use Rattle.plans.specs.declared.Plan.{Plan}
 use Rattle.plans.proofs.All.{all-true}
 use Rattle.plans.proofs.Entries.{supply-at-element, node-at-element}
 use Rattle.decode.proofs.Entries.{filled-is}
-use Rattle.dispatch.specs.declared.State.{State}
+use Rattle.dispatch.specs.Run.{Standing}
 use Rattle.numbers.specs.Numbers.{
   planNumbers,
   planIn,
@@ -83,7 +83,7 @@ pub plan-laid-out : PlanLaidOut
 plan-laid-out plan held = record { fit = plan-fit plan held; back = plan-back plan held }
 
 -- a state that the code can hold
-module _ (state : State) (held : HeldState state) where
+module _ (state : Standing) (held : HeldState state) where
   count-back : (i : ℕ) → countIn (stateNumbers state) i ≡ getD (state .left) i 0
   unfolding countIn stateNumbers
   count-back i = rw (add-one i)

@@ -13,9 +13,7 @@ use Rattle.plans.specs.declared.Node.{Node}
 use Rattle.plans.specs.declared.Plan.{Plan}
 use Rattle.decode.specs.Decode.{kindNamed, filled}
 use Rattle.layout.specs.Layout.{kindByte, parentByte, lays}
-use Rattle.dispatch.specs.Run.{zeroState}
-use Rattle.dispatch.specs.declared.State.{State}
-use Rattle.numbers.specs.declared.Given.{Given}
+use Rattle.dispatch.specs.Run.{Standing, zeroState}
 
 -- the two numbers of a type, and the six of a node: its kind and its parent as in a plan file, then wanted C and T, served C and T
 unfoldable pub typeNumbers : SlotType → List ℕ
@@ -105,13 +103,13 @@ planLaid plan out =
     cond (eqb (length out) 404 && (leb (plan .cores) 0xffff_ffff && leb (plan .size) 0xffff_ffff)) (true, planNumbers plan) (false, out)
 
 -- the clock, and the slots left of 64 nodes
-unfoldable pub stateNumbers : State → List ℕ
+unfoldable pub stateNumbers : Standing → List ℕ
 stateNumbers state = state .clock ∷ state .left
 
 unfoldable pub countIn : List ℕ → ℕ → ℕ
 countIn xs i = getD xs (i + 1) 0
 
-unfoldable pub stateIn : List ℕ → State
+unfoldable pub stateIn : List ℕ → Standing
 stateIn xs = record { clock = getD xs 0 0; left = filled (countIn xs) (replicate 64 0) 64 }
 
 -- Whether numbers are a state's: so many, and every count within its field, at most 65,535. The clock may be any number of 64 bits.
@@ -122,12 +120,15 @@ unfoldable pub isState : List ℕ → Bool
 isState xs = eqb (length xs) 65 && all (isCountAt xs) 64
 
 -- The state of any numbers; zeros where they are no state's. A state of zeros may be fit, so the code says with it whether they are.
-unfoldable pub stateOfNumbers : List ℕ → State
+unfoldable pub stateOfNumbers : List ℕ → Standing
 stateOfNumbers xs = cond (isState xs) (stateIn xs) zeroState
 
-unfoldable pub stateGiven : List ℕ → Given
-stateGiven xs = record { fit = isState xs; state = stateOfNumbers xs }
+abbrev pub noState : Bool × Standing
+noState = (false, zeroState)
+
+unfoldable pub stateGiven : List ℕ → Bool × Standing
+stateGiven xs = (isState xs, stateOfNumbers xs)
 
 -- a state laid down in the numbers of `out`: whether it was, and what they are afterwards
-unfoldable pub stateLaid : State → List ℕ → Bool × List ℕ
+unfoldable pub stateLaid : Standing → List ℕ → Bool × List ℕ
 stateLaid state out = cond (eqb (length out) 65) (true, stateNumbers state) (false, out)

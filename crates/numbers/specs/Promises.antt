@@ -8,7 +8,7 @@ use Rattle.plans.specs.Plan.{zeroType, zeroNode}
 use Rattle.plans.specs.declared.Parent.{Parent}
 use Rattle.plans.specs.declared.Parent.the-variants.{Supply, Node as Under}
 use Rattle.plans.specs.declared.Plan.{Plan}
-use Rattle.dispatch.specs.declared.State.{State}
+use Rattle.dispatch.specs.Run.{Standing}
 use Rattle.numbers.specs.Numbers.{planNumbers, planOfNumbers, isPlan, stateNumbers, stateOfNumbers, isState}
 
 -- a parent that a parent byte can name
@@ -31,7 +31,7 @@ pub record Held (plan : Plan) : Type 0 where
   pub parents : (i : ℕ) → i < 64 → Nameable (getD (plan .nodes) i zeroNode .parent)
 
 -- a state as the code can hold one
-pub record HeldState (state : State) : Type 0 where
+pub record HeldState (state : Standing) : Type 0 where
   pub whole : length (state .left) ≡ 64
   pub counts : (i : ℕ) → i < 64 → getD (state .left) i 0 < 65536
 
@@ -43,9 +43,9 @@ pub record LaidOut (plan : Plan) : Type 0 where
 abbrev pub PlanLaidOut : Type 0
 PlanLaidOut = (plan : Plan) → Held plan → LaidOut plan
 
-pub record StateLaidOut (state : State) : Type 0 where
+pub record StateLaidOut (state : Standing) : Type 0 where
   pub fit : isState (stateNumbers state) ≡ true
   pub back : stateOfNumbers (stateNumbers state) ≡ state
 
 abbrev pub EveryStateLaidOut : Type 0
-EveryStateLaidOut = (state : State) → HeldState state → StateLaidOut state
+EveryStateLaidOut = (state : Standing) → HeldState state → StateLaidOut state

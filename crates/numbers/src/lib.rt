@@ -1,6 +1,7 @@
 // A plan value as 404 numbers and a state as 65, as include/mettulos.h says: taken from a slice of numbers, and laid down in one. A slice may hold
 // anything: numbers that are no value's give a value of zeros, and what has no place is not laid down. specs/Numbers.antt says how each value lies.
 ghost use mathlib.Core.Path.{_≡_};
+ghost use Rattle.dispatch.specs.Run.{standing};
 ghost use Rattle.numbers.specs.Numbers.{planOfNumbers, planLaid, stateGiven, stateLaid};
 
 mod laying;
@@ -45,7 +46,7 @@ pub fn put_plan(plan: Plan, out: &mut [u32]) -> bool
 
 // The state that numbers say, and whether they are a state's: the first that is too large decides.
 pub fn state_of(xs: &[u64]) -> Given
-    ensures { λ r. ⌜ r ≡ stateGiven (now (xs .entry)) ⌝ }
+    ensures { λ r. ⌜ (r .fit, standing (r .state)) ≡ stateGiven (now (xs .entry)) ⌝ }
 {
     if xs.len() != 65 {
         return states::none();
@@ -67,7 +68,7 @@ pub fn state_of(xs: &[u64]) -> Given
 
 // Lays a state down, where `out` has 65 numbers. Says whether it did.
 pub fn put_state(state: State, out: &mut [u64]) -> bool
-    ensures { λ r. ⌜ (r, now (out .exit)) ≡ stateLaid state (now (out .entry)) ⌝ }
+    ensures { λ r. ⌜ (r, now (out .exit)) ≡ stateLaid (standing state) (now (out .entry)) ⌝ }
 {
     if out.len() != 65 {
         return false;

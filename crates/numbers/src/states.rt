@@ -1,15 +1,15 @@
 // The two ends of a state: what is given of numbers that are none's, and its counts laid down.
 ghost use mathlib.Core.Path.{_≡_};
-ghost use mathlib.Core.Bool.{false};
 ghost use lib.ListN.{length};
 ghost use lib.Seq.{paste};
-ghost use Rattle.dispatch.specs.Run.{zeroState};
+ghost use Rattle.dispatch.specs.Run.{standing};
+ghost use Rattle.numbers.specs.Numbers.{noState};
 use crate::Given;
 use dispatch::State;
 
 // Of numbers that are no state's.
 pub fn none() -> Given
-    ensures { λ r. ⌜ r ≡ record { fit = false; state = zeroState } ⌝ }
+    ensures { λ r. ⌜ (r .fit, standing (r .state)) ≡ noState ⌝ }
 {
     let left = [0; 64];
     let state = State { clock: 0, left };

@@ -18,15 +18,13 @@ use Rattle.plans.specs.declared.Plan.{Plan}
 use Rattle.dispatch.proofs.SlotsFresh.{replicate-everywhere}
 use Rattle.dispatch.proofs.SlotsDepth.{at-top}
 use Rattle.dispatch.specs.View.{viewOf, bitOf, isLeaf}
-use Rattle.dispatch.specs.Slot.{walk, granting, serveCore, serveTo, unsupplied}
-use Rattle.dispatch.specs.declared.Served.{Served}
-use Rattle.dispatch.specs.declared.Walked.{Walked}
+use Rattle.dispatch.specs.Slot.{WalkEnd, SlotEnd, walk, granting, serveCore, serveTo, unsupplied}
 use Rattle.unending.proofs.Books.{Fell, Opened, opened-more, Books, Pending, shut-untouched}
 use Rattle.unending.proofs.Walks.{Walks, walk-keeps}
 
 module _ (plan : Plan) (supplied declines : ℕ) (start : List ℕ) where
   -- where the first k cores have brought the counts and the answers
-  pub record Cores (k : ℕ) (so : Served) : Type 0 where
+  pub record Cores (k : ℕ) (so : SlotEnd) : Type 0 where
     pub books : Books plan supplied declines start k (λ y. ⊥) (so .left)
     pub answered-fell : (i s : ℕ) → i < plan .size → s < k → getD (so .grants) s unsupplied ≡ i → Fell start (so .left) i
     pub fell-answered : (i : ℕ) → isLeaf plan i ≡ true → Fell start (so .left) i → (s : ℕ) × (s < k) × (getD (so .grants) s unsupplied ≡ i)
@@ -63,7 +61,7 @@ module _ (plan : Plan) (sound : Sound plan) (supplied declines : ℕ) (start : L
       go (no different) = (omega arith, o .1)
   opened-fewer k now (Under h) other o = o
 
-  module _ (k : ℕ) (so : Served) (at : Cores plan supplied declines start k so) where
+  module _ (k : ℕ) (so : SlotEnd) (at : Cores plan supplied declines start k so) where
     -- the same books, as those of one core more: what was opened stays so
     one-more : (but : Parent → Type 0) → ((x : Parent) → (but x → ⊥) → Opened supplied start (suc k) (so .left) x → Opened supplied start k (so .left) x) →
         Books plan supplied declines start (suc k) but (so .left)
@@ -108,7 +106,7 @@ module _ (plan : Plan) (sound : Sound plan) (supplied declines : ℕ) (start : L
         }
 
     -- and when it ends its grant is the core's answer
-    core-granted : k < 8 → (w : Walked) → Walks plan supplied declines start (suc k) (so .left) w → Cores plan supplied declines start (suc k) (granting so k w)
+    core-granted : k < 8 → (w : WalkEnd) → Walks plan supplied declines start (suc k) (so .left) w → Cores plan supplied declines start (suc k) (granting so k w)
     unfolding granting
     core-granted below w ends =
         record {

@@ -1,7 +1,7 @@
 -- What specs/Promises.antt says of slots given out from a fresh start holds. Assumes nothing.
 use Prim.Native.Nat.{ℕ, zero, suc, _+_, _*_, _%_, _≤_, _<_}
 use mathlib.Core.List.{List}
-use mathlib.Core.Path.{_≡_, refl, ap, _∙_}
+use mathlib.Core.Path.{_≡_, refl, _∙_}
 use lib.ListN.{length, getD}
 use borrow.Author.Tests.{lt-ltb, ltb-true, eq-eqb, eqb-true}
 use native.Mathlib.Nat.{zero-add, add-zero, add-suc, mul-mod-left, mul-add-mod-self-right, mod-eq-of-lt}
@@ -87,8 +87,8 @@ module _ (plan : Plan) (supplies declines : List ℕ) (supply decline : ℕ → 
   course-first zero l = refl
   course-first (suc k) l = rw (course-first k (omega arith), zero-add k, ← (supplied k l), ← (declined k l))
 
--- the answers of a run from a fresh start are the first part of the unending ones
+-- a run from a fresh start is the first part of the unending one
 pub first-part : FirstPart
 unfolding course
-first-part plan state supplies declines supply decline fresh alike supplied declined =
-    rw fresh (ap (λ c. c .answers) (course-first plan supplies declines supply decline supplied declined (length supplies) (omega arith)))
+first-part plan supplies declines supply decline supplied declined =
+    course-first plan supplies declines supply decline supplied declined (length supplies) (omega arith)

@@ -20,16 +20,13 @@ use Rattle.dispatch.proofs.Choices.{choice-below, choice-under, choice-left, ch
 use Rattle.dispatch.proofs.Slots.{charge-same, charge-other}
 use Rattle.dispatch.proofs.SlotsDepth.{Stands, choice-stands, deepest-nobody}
 use Rattle.dispatch.specs.View.{viewOf, isLeaf}
-use Rattle.dispatch.specs.Choice.{choose}
-use Rattle.dispatch.specs.Slot.{charge, follow, walk, idle}
-use Rattle.dispatch.specs.declared.Choice.{Choice}
-use Rattle.dispatch.specs.declared.Choice.the-variants.{Nobody, Child}
-use Rattle.dispatch.specs.declared.Walked.{Walked}
+use Rattle.dispatch.specs.Choice.{Pick, nobody, just, choose}
+use Rattle.dispatch.specs.Slot.{WalkEnd, charge, follow, walk, idle}
 use Rattle.unending.proofs.Books.{Fell, Opened, opened-more, parent-decided, Took, Books, Pending, shut-untouched}
 
 module _ (plan : Plan) (supplied declines : ℕ) (start : List ℕ) where
   -- what a walk from the counts `now` comes to: the books with nothing left out, what fell stays fallen, and the grant names the leaf that fell
-  pub record Walks (k : ℕ) (now : List ℕ) (w : Walked) : Type 0 where
+  pub record Walks (k : ℕ) (now : List ℕ) (w : WalkEnd) : Type 0 where
     pub books : Books plan supplied declines start k (λ y. ⊥) (w .left)
     pub still : (i : ℕ) → Fell start now i → Fell start (w .left) i
     pub granted-fell : (i : ℕ) → i < plan .size → w .grant ≡ i → Fell start (w .left) i
@@ -38,7 +35,7 @@ module _ (plan : Plan) (supplied declines : ℕ) (start : List ℕ) where
 module _ (plan : Plan) (sound : Sound plan) (supplied declines : ℕ) (start : List ℕ) (k : ℕ) where
   -- where a choice is nobody or has fallen, nothing is left out
   closed : (x : Parent) (now : List ℕ) → Books plan supplied declines start k (λ y. y ≡ x) now →
-      ((i : ℕ) → choose (viewOf plan) start declines x ≡ Child i → Fell start now i) → Books plan supplied declines start k (λ y. ⊥) now
+      ((i : ℕ) → choose (viewOf plan) start declines x ≡ just i → Fell start now i) → Books plan supplied declines start k (λ y. ⊥) now
   closed x now b last =
       record {
         no-more = b .no-more;
@@ -46,14 +43,14 @@ module _ (plan : Plan) (sound : Sound plan) (supplied declines : ℕ) (start : L
         gave = λ y _ o i c. go y o i c (parent-decided y x);
       }
     where
-      go : (y : Parent) → Opened supplied start k now y → (i : ℕ) → choose (viewOf plan) start declines y ≡ Child i → Dec (y ≡ x) → Fell start now i
+      go : (y : Parent) → Opened supplied start k now y → (i : ℕ) → choose (viewOf plan) start declines y ≡ just i → Dec (y ≡ x) → Fell start now i
       go y o i c (yes e) = last i (rw e at c)
       go y o i c (no other) = b .gave y other o i c
 
   -- a walk that finds nobody ends where it stands
-  ends : (x : Parent) (now : List ℕ) → Pending plan supplied declines start k x now → choose (viewOf plan) start declines x ≡ Nobody →
+  ends : (x : Parent) (now : List ℕ) → Pending plan supplied declines start k x now → choose (viewOf plan) start declines x ≡ nobody →
       Walks plan supplied declines start k now (record { grant = idle; left = now })
-  ends x now p nobody =
+  ends x now p none =
       record {
         books = closed x now (p .books) (λ i c. absurd (let z : _≡_ {A = ℕ} 0 1 = cc in omega arith));
         still = λ i f. f;
@@ -62,7 +59,7 @@ module _ (plan : Plan) (sound : Sound plan) (supplied declines : ℕ) (start : L
       }
 
   module _ (x : Parent) (now : List ℕ) (p : Pending plan supplied declines start k x now) (i : ℕ)
-      (c : choose (viewOf plan) start declines x ≡ Child i) where
+      (c : choose (viewOf plan) start declines x ≡ just i) where
     -- the choice at the start is a node there, and a child of x
     there : i < plan .size
     there = choice-below (viewOf plan) start declines x i c
@@ -118,7 +115,7 @@ module _ (plan : Plan) (sound : Sound plan) (supplied declines : ℕ) (start : L
     opened-before (Under h) other o = other-fell h (λ e. other (ap Under e)) o
 
     -- and the choice of each parent but the charged one has fallen
-    charged-gave : (y : Parent) → (y ≡ Under i → ⊥) → Opened supplied start k (charge now i) y → (j : ℕ) → choose (viewOf plan) start declines y ≡ Child j →
+    charged-gave : (y : Parent) → (y ≡ Under i → ⊥) → Opened supplied start k (charge now i) y → (j : ℕ) → choose (viewOf plan) start declines y ≡ just j →
         Fell start (charge now i) j
     charged-gave y below o j d = go (parent-decided y x)
       where
@@ -172,7 +169,7 @@ module _ (plan : Plan) (sound : Sound plan) (supplied declines : ℕ) (start : L
         }
 
     -- what the walk below a host comes to is what the walk from its parent comes to
-    through : isLeaf plan i ≡ false → (w : Walked) → Walks plan supplied declines start k (charge now i) w → Walks plan supplied declines start k now w
+    through : isLeaf plan i ≡ false → (w : WalkEnd) → Walks plan supplied declines start k (charge now i) w → Walks plan supplied declines start k now w
     through host w below =
         record {
           books = below .books;
@@ -186,8 +183,8 @@ module _ (plan : Plan) (sound : Sound plan) (supplied declines : ℕ) (start : L
         go j leaf (inr e) = inr e
 
     -- what follows the choice, where the walk below a host keeps the books
-    followed : (onward : Parent → List ℕ → Walked) → Walks plan supplied declines start k (charge now i) (onward (Under i) (charge now i)) →
-        Walks plan supplied declines start k now (follow (viewOf plan) onward now (Child i))
+    followed : (onward : Parent → List ℕ → WalkEnd) → Walks plan supplied declines start k (charge now i) (onward (Under i) (charge now i)) →
+        Walks plan supplied declines start k now (follow (viewOf plan) onward now (just i))
     unfolding follow
     followed onward below = go (isLeaf plan i) refl
       where
@@ -208,8 +205,8 @@ module _ (plan : Plan) (sound : Sound plan) (supplied declines : ℕ) (start : L
       let deeper : 8 ≤ suc e + levels = omega (arith, suc-add e levels, add-suc e levels) in
       walk-keeps levels (choice-stands plan sound declines s start i c) deeper (charge now i) (at-host x now p i c)))
     where
-      go : (w : Choice) → choose (viewOf plan) start declines x ≡ w → ((i : ℕ) → choose (viewOf plan) start declines x ≡ Child i →
+      go : (w : Pick) → choose (viewOf plan) start declines x ≡ w → ((i : ℕ) → choose (viewOf plan) start declines x ≡ just i →
           Walks plan supplied declines start k (charge now i) (walk (viewOf plan) declines levels (Under i) (charge now i))) →
           Walks plan supplied declines start k now (follow (viewOf plan) (walk (viewOf plan) declines levels) now w)
-      go Nobody c below = ends x now p c
-      go (Child i) c below = followed x now p i c (walk (viewOf plan) declines levels) (below i c)
+      go nobody c below = ends x now p c
+      go (just i) c below = followed x now p i c (walk (viewOf plan) declines levels) (below i c)

@@ -11,12 +11,9 @@ use Rattle.plans.specs.Plan.{There, parentOf}
 use Rattle.plans.specs.declared.Plan.{Plan}
 use Rattle.rules.specs.Fit.{Fit}
 use Rattle.dispatch.specs.View.{viewOf, bitOf, isLeaf, servedC, servedT}
-use Rattle.dispatch.specs.Choice.{choose}
+use Rattle.dispatch.specs.Choice.{nobody, just, choose}
 use Rattle.dispatch.specs.Slot.{refilled}
-use Rattle.dispatch.specs.Run.{course, freshLeft}
-use Rattle.dispatch.specs.declared.Choice.{Choice}
-use Rattle.dispatch.specs.declared.Choice.the-variants.{Child}
-use Rattle.dispatch.specs.declared.State.{State}
+use Rattle.dispatch.specs.Run.{freshState, course}
 use Rattle.unending.specs.Unending.{leftAt, has, charged, granted, answersTo, may, OnCore}
 
 -- Who is charged in a slot: the choice, on the refilled counts, of a parent that may give the slot. Above this nobody opens the walk.
@@ -25,7 +22,7 @@ ChargedExactly =
     (plan : Plan) → Fit plan → (supply declines : ℕ → ℕ) (i n : ℕ) → There plan i →
     (charged plan supply declines i n ≡ true) ↔
     ((may plan supply declines (parentOf plan i) n ≡ true) ×
-    (choose (viewOf plan) (refilled (viewOf plan) n (leftAt plan supply declines n)) (declines n) (parentOf plan i) ≡ Child i))
+    (choose (viewOf plan) (refilled (viewOf plan) n (leftAt plan supply declines n)) (declines n) (parentOf plan i) ≡ just i))
 
 -- A leaf is granted a slot exactly when it is charged in it.
 abbrev pub GrantedExactly : Type 0
@@ -53,10 +50,11 @@ OneChild =
     (plan : Plan) → Fit plan → (supply declines : ℕ → ℕ) (i j n : ℕ) → There plan i → There plan j →
     parentOf plan i ≡ parentOf plan j → charged plan supply declines i n ≡ true → charged plan supply declines j n ≡ true → i ≡ j
 
--- The answers of a run from a fresh start are the first part of the unending ones, for any unending inputs that begin as the run's do.
+-- A run from a fresh start is the first part of the unending one, for any unending inputs that begin as the run's do: the same answers, and the same
+-- counts after it.
 abbrev pub FirstPart : Type 0
 FirstPart =
-    (plan : Plan) (state : State) (supplies declines : List ℕ) (supply decline : ℕ → ℕ) →
-    state ≡ record { clock = 0; left = freshLeft (viewOf plan) } → length supplies ≡ length declines →
+    (plan : Plan) (supplies declines : List ℕ) (supply decline : ℕ → ℕ) →
     ((k : ℕ) → k < length supplies → supply k ≡ getD supplies k 0) → ((k : ℕ) → k < length supplies → decline k ≡ getD declines k 0) →
-    course plan state supplies declines .answers ≡ answersTo plan supply decline (length supplies)
+    course plan (freshState plan) supplies declines ≡
+    record { left = leftAt plan supply decline (length supplies); answers = answersTo plan supply decline (length supplies) }

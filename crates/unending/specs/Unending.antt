@@ -11,9 +11,8 @@ use Rattle.plans.specs.declared.Parent.{Parent}
 use Rattle.plans.specs.declared.Parent.the-variants.{Supply, Node as Under}
 use Rattle.plans.specs.declared.Plan.{Plan}
 use Rattle.dispatch.specs.View.{viewOf, bitOf}
-use Rattle.dispatch.specs.Slot.{refilled, slot, unsupplied}
+use Rattle.dispatch.specs.Slot.{SlotEnd, refilled, slot, unsupplied}
 use Rattle.dispatch.specs.Run.{freshLeft}
-use Rattle.dispatch.specs.declared.Served.{Served}
 
 -- whether a test holds of some number below n
 unfoldable pub any : (ℕ → Bool) → ℕ → Bool
@@ -27,7 +26,7 @@ module _ (plan : Plan) (supply declines : ℕ → ℕ) where
   leftAt (suc n) = slot (viewOf plan) (plan .cores) n (supply n) (declines n) (leftAt n) .left
 
   -- slot n: its answers and the counts after it
-  unfoldable pub slotAt : ℕ → Served
+  unfoldable pub slotAt : ℕ → SlotEnd
   slotAt n = slot (viewOf plan) (plan .cores) n (supply n) (declines n) (leftAt n)
 
   -- what node i has left in slot n, after the refill and before anything is picked

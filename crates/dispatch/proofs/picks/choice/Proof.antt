@@ -4,12 +4,12 @@ use mathlib.Core.Path.{_≡_}
 use borrow.Author.Needs.{needs}
 use Rattle.dispatch.proofs.Choosing.{choose-none, choose-more, choose-done}
 use Rattle.dispatch.specs.View.{viewOf}
-use Rattle.dispatch.specs.Choice.{chooseTo}
+use Rattle.dispatch.specs.Choice.{picked, chooseTo}
 use Rattle.dispatch.proofs.picks.choice.Statement.{statement}
 use Rattle.dispatch.proofs.picks.choice.Tie as tie
 
 abbrev Inv-loop : tie.InvT-loop
-Inv-loop plan left declines x size best₀ i₀ best i = (i ≤ size) × (best ≡ chooseTo (viewOf plan) left declines x i)
+Inv-loop plan left declines x size best₀ i₀ best i = (i ≤ size) × (picked best ≡ chooseTo (viewOf plan) left declines x i)
 
 abbrev μ-loop : tie.MeasureT-loop
 μ-loop plan left declines x size best₀ i₀ best i = size - i

@@ -14,8 +14,8 @@ returns c = search (outcome-unfit, not-true)
 is-roomy-requires : tie.Need-is-roomy-requires
 is-roomy-requires c κs = search (ready-cores, not-false)
 
-is-in-range-requires : tie.Need-is-in-range-requires
-is-in-range-requires c κs = search (ready-clock, not-false)
+is-in-time-requires : tie.Need-is-in-time-requires
+is-in-time-requires c κs = search (ready-clock, not-false)
 
 returns-2 : tie.Need-returns-2
 returns-2 c = search (outcome-misfit, not-true, not-false)
@@ -33,7 +33,7 @@ outcome-of-spec =
     is-ready-requires
     returns
     is-roomy-requires
-    is-in-range-requires
+    is-in-time-requires
     returns-2
     returns-3
     returns-4)

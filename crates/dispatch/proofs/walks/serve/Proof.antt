@@ -5,12 +5,12 @@ use borrow.Author.Needs.{needs}
 use Rattle.dispatch.proofs.Counting.{core-place}
 use Rattle.dispatch.proofs.Walking.{serve-none, serve-more, serve-done}
 use Rattle.dispatch.specs.View.{viewOf}
-use Rattle.dispatch.specs.Slot.{serveTo}
+use Rattle.dispatch.specs.Slot.{slotEnd, serveTo}
 use Rattle.dispatch.proofs.walks.serve.Statement.{statement}
 use Rattle.dispatch.proofs.walks.serve.Tie as tie
 
 abbrev Inv-loop : tie.InvT-loop
-Inv-loop plan n supplied declines cores so₀ s₀ so s = (s ≤ cores) × (so ≡ serveTo (viewOf plan) supplied declines so₀ s)
+Inv-loop plan n supplied declines cores so₀ s₀ so s = (s ≤ cores) × (slotEnd so ≡ serveTo (viewOf plan) supplied declines (slotEnd so₀) s)
 
 abbrev μ-loop : tie.MeasureT-loop
 μ-loop plan n supplied declines cores so₀ s₀ so s = cores - s

@@ -3,4 +3,5 @@ pub mod All
 pub mod Depth
 pub mod Tests
 pub mod Parents
+pub mod Cores
 pub mod Kept

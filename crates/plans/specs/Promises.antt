@@ -1,10 +1,11 @@
--- What is promised of soundness. Why each holds is in proofs/. Assumes nothing.
+-- What is promised of soundness and of cores. Why each holds is in proofs/. Assumes nothing.
 use Prim.Native.Nat.{ℕ, _<_}
 use mathlib.Core.Bool.{true}
 use mathlib.Core.Logic.{_↔_}
 use mathlib.Core.Path.{_≡_}
 use Rattle.plans.specs.Plan.{There, supplyAt, nodeAt}
 use Rattle.plans.specs.Sound.{Sound, sound}
+use Rattle.plans.specs.Cores.{OnCore, coreOf}
 use Rattle.plans.specs.declared.Plan.{Plan}
 
 -- The test says yes exactly when the value keeps 2 to 7.
@@ -22,3 +23,12 @@ pub record Agree (a b : Plan) : Type 0 where
 -- 01: "unused entries of a plan value are zeros and ignored"
 abbrev pub UnusedIgnored : Type 0
 UnusedIgnored = (a b : Plan) → Agree a b → Sound a → Sound b
+
+-- A node of a sound plan is on its own core, which is there, and on no other.
+pub record ItsCore (plan : Plan) (i : ℕ) : Type 0 where
+  pub on : OnCore plan i (coreOf plan i)
+  pub there : coreOf plan i < plan .cores
+  pub no-other : (s : ℕ) → OnCore plan i s → s ≡ coreOf plan i
+
+abbrev pub CoreExactly : Type 0
+CoreExactly = (plan : Plan) → Sound plan → (i : ℕ) → There plan i → ItsCore plan i

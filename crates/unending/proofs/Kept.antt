@@ -1,6 +1,8 @@
 -- What specs/Promises.antt says of slots given out from a fresh start holds. Assumes nothing.
 use Prim.Native.Nat.{ℕ, zero, suc, _+_, _*_, _%_, _≤_, _<_}
+use mathlib.Core.Bool.{Bool, true, false}
 use mathlib.Core.List.{List}
+use mathlib.Core.Logic.{_⊎_, inl, inr}
 use mathlib.Core.Path.{_≡_, refl, _∙_}
 use lib.ListN.{length, getD}
 use borrow.Author.Tests.{lt-ltb, ltb-true, eq-eqb, eqb-true}
@@ -8,16 +10,38 @@ use native.Mathlib.Nat.{zero-add, add-zero, add-suc, mul-mod-left, mul-add-mod-s
 use native.Mathlib.Omega.{arith}
 use Rattle.meaning.specs.Allocation.{ones}
 use Rattle.plans.proofs.All.{both-ways}
+use Rattle.plans.proofs.Cores.{one-core, core-exactly}
 use Rattle.plans.proofs.Parents.{host-there}
+use Rattle.plans.specs.Cores.{child, deeper, OnCore, coreOf}
 use Rattle.plans.specs.Plan.{parentOf}
+use Rattle.plans.specs.declared.Parent.the-variants.{Supply}
 use Rattle.plans.specs.declared.Plan.{Plan}
 use Rattle.rules.specs.Fit.{Fit}
-use Rattle.dispatch.specs.View.{viewOf, servedC, servedT}
+use Rattle.dispatch.specs.View.{viewOf, bitOf, isLeaf, servedC, servedT}
+use Rattle.dispatch.specs.Slot.{slot}
 use Rattle.dispatch.specs.Run.{courseTo, course, freshLeft}
-use Rattle.unending.proofs.Any.{any-found, any-here}
-use Rattle.unending.proofs.Slots.{slot-kept, may-opened, opened-may, slot-takes, has-next, has-anew}
-use Rattle.unending.specs.Unending.{leftAt, slotAt, has, charged, answers, granted, answersTo, may, top, under}
-use Rattle.unending.specs.Promises.{ChargedExactly, GrantedExactly, Balance, OwnCore, OneChild, FirstPart}
+use Rattle.unending.proofs.Answers.{EndsAt, nowhere, somewhere, Told, cores-told}
+use Rattle.unending.proofs.Slots.{startAt, slot-kept, may-opened, opened-may, slot-takes, has-next, has-anew}
+use Rattle.unending.specs.Unending.{leftAt, slotAt, has, charged, answerAt, granted, answersTo, may}
+use Rattle.unending.specs.Promises.{
+  ChargedExactly,
+  GrantedExactly,
+  Answered,
+  not-supplied,
+  the-leaf,
+  stays-idle,
+  AnsweredExactly,
+  Balance,
+  BalanceAfter,
+  OwnCore,
+  OneChild,
+  FirstPart,
+}
+
+-- a test that cannot hold fails
+not-charged : (b : Bool) → (b ≡ true → ⊥) → b ≡ false
+not-charged true h = absurd (h refl)
+not-charged false h = refl
 
 -- who is charged is the choice, on the refilled counts, of a parent that may give the slot
 pub charged-exactly : ChargedExactly
@@ -31,18 +55,61 @@ charged-exactly plan fit supply declines i n l =
           lt-ltb _ _ (kept .gave (parentOf plan i) (λ none. none) (may-opened plan supply declines fit n i l (parentOf plan i) refl (h .0)) i (h .1)),
     )
 
+module _ (plan : Plan) (fit : Fit plan) (supply declines : ℕ → ℕ) (n : ℕ) where
+  -- each core answers 255, or ends its walk
+  told : (s : ℕ) → s < plan .cores → Told plan (fit .sound) (supply n) (declines n) (startAt plan supply declines n) s (answerAt plan supply declines n s)
+  unfolding answerAt slotAt slot
+  told s l = cores-told plan (fit .sound) (supply n) (declines n) (startAt plan supply declines n) (plan .cores) s (fit .sound .eight-cores) l
+
+  -- a leaf that is answered by some core is charged,
+  answered-charged : (i s : ℕ) → i < plan .size → s < plan .cores → answerAt plan supply declines n s ≡ i → charged plan supply declines i n ≡ true
+  unfolding answerAt charged has
+  answered-charged i s l m e = lt-ltb _ _ (slot-kept plan supply declines fit n .answered-fell i s l m e)
+
+  -- and one that is charged is the answer of its own core
+  charged-answered : (i s : ℕ) → i < plan .size → isLeaf plan i ≡ true → OnCore plan i s → charged plan supply declines i n ≡ true →
+      answerAt plan supply declines n s ≡ i
+  unfolding answerAt charged has
+  charged-answered i s l leaf on c =
+      let (z, m, e) = slot-kept plan supply declines fit n .fell-answered i leaf (ltb-true _ _ c) in
+      rw (one-core plan on (its z m e (told z m))) e
+    where
+      its : (z : ℕ) → z < plan .cores → answerAt plan supply declines n z ≡ i →
+          Told plan (fit .sound) (supply n) (declines n) (startAt plan supply declines n) z (answerAt plan supply declines n z) → OnCore plan i z
+      its z m e (inl (off, none)) = absurd (omega (arith, fit .sound .sixty-four-nodes))
+      its z m e (inr (on, ends)) = beneath (rw e at ends)
+        where
+          beneath : EndsAt plan (declines n) (Supply z) i → OnCore plan i z
+          beneath = go i l
+            where
+              go : (g : ℕ) → g < plan .size → EndsAt plan (declines n) (Supply z) g → OnCore plan g z
+              go g small nowhere = absurd (omega (arith, fit .sound .sixty-four-nodes))
+              go g small (somewhere there is b) = b
+
+-- what each core answers
+pub answered-exactly : AnsweredExactly
+answered-exactly plan fit supply declines n s m = go (answerAt plan supply declines n s) refl (told plan fit supply declines n s m)
+  where
+    go : (g : ℕ) → answerAt plan supply declines n s ≡ g → Told plan (fit .sound) (supply n) (declines n) (startAt plan supply declines n) s g →
+        Answered plan supply declines n s g
+    go g e (inl (dark, none)) = rw none (not-supplied dark)
+    go g e (inr (on, ends)) = at g e ends
+      where
+        at : (g : ℕ) → answerAt plan supply declines n s ≡ g → EndsAt plan (declines n) (Supply s) g → Answered plan supply declines n s g
+        at g e nowhere =
+            stays-idle on (λ i l is b.
+            not-charged (charged plan supply declines i n) (λ c.
+            omega (arith, fit .sound .sixty-four-nodes, charged-answered plan fit supply declines n i s l is b c)))
+        at g e (somewhere l is b) = the-leaf on l is b (answered-charged plan fit supply declines n g s l m e)
+
 -- a leaf is granted a slot exactly when it is charged in it
 pub granted-exactly : GrantedExactly
-unfolding granted answers charged has
+unfolding granted
 granted-exactly plan fit supply declines i n l leaf =
-    let kept = slot-kept plan supply declines fit n in
+    let own = core-exactly plan (fit .sound) i l in
     both-ways (granted plan supply declines i n) (charged plan supply declines i n)
-    (λ e.
-    let (s, below, at) = any-found (answers plan supply declines i n) (plan .cores) e in
-    lt-ltb _ _ (kept .answered-fell i s l below (eqb-true _ _ at)))
-    (λ e.
-    let (s, below, at) = kept .fell-answered i leaf (ltb-true _ _ e) in
-    any-here (answers plan supply declines i n) (plan .cores) s below (eq-eqb _ _ at))
+    (λ e. answered-charged plan fit supply declines n i (coreOf plan i) l (own .there) (eqb-true _ _ e))
+    (λ c. eq-eqb _ _ (charged-answered plan fit supply declines n i (coreOf plan i) l leaf (own .on) c))
 
 module _ (plan : Plan) (fit : Fit plan) (supply declines : ℕ → ℕ) (i : ℕ) (l : i < plan .size) where
   -- left plus what was charged since slot b·T is the served C, for each slot up to the next refill
@@ -63,11 +130,18 @@ module _ (plan : Plan) (fit : Fit plan) (supply declines : ℕ → ℕ) (i : ℕ
 pub balance : Balance
 balance plan fit supply declines i b a l = balanced plan fit supply declines i l b a
 
+-- and after every slot it is so
+pub balance-after : BalanceAfter
+unfolding ones leftAt slotAt
+balance-after plan fit supply declines i b a l below =
+    let n = b * servedT plan i + a in
+    omega (arith, slot-takes plan fit supply declines i l n, balanced plan fit supply declines i l b a below)
+
 -- a node is charged only in a slot of its own core
 pub own-core : OwnCore
 unfolding may
-own-core plan fit supply declines i n s l (top up) c = rw up at (charged-exactly plan fit supply declines i n l .0 c .0)
-own-core plan fit supply declines i n s l (under {h = h} up core) c =
+own-core plan fit supply declines i n s l (child up) c = rw up at (charged-exactly plan fit supply declines i n l .0 c .0)
+own-core plan fit supply declines i n s l (deeper {h = h} up core) c =
     own-core plan fit supply declines h n s (host-there plan (fit .sound) i l h up) core (rw up at (charged-exactly plan fit supply declines i n l .0 c .0))
 
 -- at most one child of a parent is charged in a slot

@@ -1,6 +1,6 @@
 pub mod Books
 pub mod Walks
 pub mod Cores
-pub mod Any
+pub mod Answers
 pub mod Slots
 pub mod Kept

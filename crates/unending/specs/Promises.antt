@@ -1,20 +1,21 @@
 -- What is promised of slots given out from a fresh start, for every fit plan, every supply and whoever declines. Why each holds is in proofs/.
 -- Assumes nothing.
-use Prim.Native.Nat.{ℕ, _+_, _*_, _<_}
-use mathlib.Core.Bool.{Bool, true}
+use Prim.Native.Nat.{ℕ, suc, _+_, _*_, _<_}
+use mathlib.Core.Bool.{Bool, true, false}
 use mathlib.Core.List.{List}
 use mathlib.Core.Logic.{_↔_}
 use mathlib.Core.Path.{_≡_}
 use lib.ListN.{length, getD}
 use Rattle.meaning.specs.Allocation.{ones}
 use Rattle.plans.specs.Plan.{There, parentOf}
+use Rattle.plans.specs.Cores.{OnCore}
 use Rattle.plans.specs.declared.Plan.{Plan}
 use Rattle.rules.specs.Fit.{Fit}
 use Rattle.dispatch.specs.View.{viewOf, bitOf, isLeaf, servedC, servedT}
-use Rattle.dispatch.specs.Choice.{nobody, just, choose}
-use Rattle.dispatch.specs.Slot.{refilled}
+use Rattle.dispatch.specs.Choice.{just, choose}
+use Rattle.dispatch.specs.Slot.{refilled, idle, unsupplied}
 use Rattle.dispatch.specs.Run.{freshState, course}
-use Rattle.unending.specs.Unending.{leftAt, has, charged, granted, answersTo, may, OnCore}
+use Rattle.unending.specs.Unending.{leftAt, has, charged, answerAt, granted, answersTo, may}
 
 -- Who is charged in a slot: the choice, on the refilled counts, of a parent that may give the slot. Above this nobody opens the walk.
 abbrev pub ChargedExactly : Type 0
@@ -30,12 +31,34 @@ GrantedExactly =
     (plan : Plan) → Fit plan → (supply declines : ℕ → ℕ) (i n : ℕ) → There plan i → isLeaf plan i ≡ true →
     granted plan supply declines i n ≡ charged plan supply declines i n
 
+-- What core s answers in slot n: 255 where it is not supplied; where it is, a leaf of that very core which is charged in this slot, or 254, and then no leaf
+-- of that core is charged.
+pub data Answered (plan : Plan) (supply declines : ℕ → ℕ) (n s : ℕ) : ℕ → Type 0 where
+  not-supplied : bitOf (supply n) s ≡ false → Answered plan supply declines n s unsupplied
+  the-leaf : {i : ℕ} → bitOf (supply n) s ≡ true → There plan i → isLeaf plan i ≡ true → OnCore plan i s →
+      charged plan supply declines i n ≡ true → Answered plan supply declines n s i
+  stays-idle : bitOf (supply n) s ≡ true →
+      ((i : ℕ) → There plan i → isLeaf plan i ≡ true → OnCore plan i s → charged plan supply declines i n ≡ false) → Answered plan supply declines n s idle
+
+abbrev pub AnsweredExactly : Type 0
+AnsweredExactly =
+    (plan : Plan) → Fit plan → (supply declines : ℕ → ℕ) (n s : ℕ) → s < plan .cores →
+    Answered plan supply declines n s (answerAt plan supply declines n s)
+
 -- 01: "From a fresh start, left plus what was charged since the last refill is always the served C." The last refill before slot b·T + a, a below T, is b·T.
 abbrev pub Balance : Type 0
 Balance =
     (plan : Plan) → Fit plan → (supply declines : ℕ → ℕ) (i b a : ℕ) → There plan i → a < servedT plan i →
     has plan supply declines i (b * servedT plan i + a) +
     ones (charged plan supply declines i) (b * servedT plan i) a ≡
+    servedC plan i
+
+-- And so it is after every slot, the last of a period included.
+abbrev pub BalanceAfter : Type 0
+BalanceAfter =
+    (plan : Plan) → Fit plan → (supply declines : ℕ → ℕ) (i b a : ℕ) → There plan i → a < servedT plan i →
+    getD (leftAt plan supply declines (suc (b * servedT plan i + a))) i 0 +
+    ones (charged plan supply declines i) (b * servedT plan i) (suc a) ≡
     servedC plan i
 
 -- A node is charged only in a slot of its own core.

@@ -1,23 +1,17 @@
 -- Slots given out from a fresh start under an unending supply: document 01, "Giving out slots", slot after slot. `supply n` is the byte of supplied cores
 -- of slot n, `declines n` its word of leaves that decline. Assumes nothing.
-use Prim.Native.Nat.{ℕ, zero, suc, _+_, _*_}
-use mathlib.Core.Bool.{Bool, false, _||_}
+use Prim.Native.Nat.{ℕ, zero, suc}
+use mathlib.Core.Bool.{Bool}
 use mathlib.Core.List.{List, [], _++_}
-use mathlib.Core.Path.{_≡_}
 use lib.Dec.{ltb, eqb}
 use lib.ListN.{getD, take}
-use Rattle.plans.specs.Plan.{parentOf}
+use Rattle.plans.specs.Cores.{coreOf}
 use Rattle.plans.specs.declared.Parent.{Parent}
 use Rattle.plans.specs.declared.Parent.the-variants.{Supply, Node as Under}
 use Rattle.plans.specs.declared.Plan.{Plan}
 use Rattle.dispatch.specs.View.{viewOf, bitOf}
 use Rattle.dispatch.specs.Slot.{SlotEnd, refilled, slot, unsupplied}
 use Rattle.dispatch.specs.Run.{freshLeft}
-
--- whether a test holds of some number below n
-unfoldable pub any : (ℕ → Bool) → ℕ → Bool
-any f zero = false
-any f (suc n) = any f n || f n
 
 module _ (plan : Plan) (supply declines : ℕ → ℕ) where
   -- the counts as slot n finds them
@@ -37,12 +31,13 @@ module _ (plan : Plan) (supply declines : ℕ → ℕ) where
   unfoldable pub charged : ℕ → ℕ → Bool
   charged i n = ltb (getD (slotAt n .left) i 0) (has i n)
 
-  -- slot n is granted to leaf i: it is the answer of some core
-  unfoldable pub answers : ℕ → ℕ → ℕ → Bool
-  answers i n s = eqb (getD (slotAt n .grants) s unsupplied) i
+  -- the answer of core s in slot n
+  unfoldable pub answerAt : ℕ → ℕ → ℕ
+  answerAt n s = getD (slotAt n .grants) s unsupplied
 
+  -- slot n is granted to leaf i: it is the answer of the leaf's own core
   unfoldable pub granted : ℕ → ℕ → Bool
-  granted i n = any (answers i n) (plan .cores)
+  granted i n = eqb (answerAt n (coreOf plan i)) i
 
   -- the answers of the first k slots, slot by slot, supplies in order
   unfoldable pub answersTo : ℕ → List ℕ
@@ -53,8 +48,3 @@ module _ (plan : Plan) (supply declines : ℕ → ℕ) where
   unfoldable pub may : Parent → ℕ → Bool
   may (Supply s) n = bitOf (supply n) s
   may (Under h) n = charged h n
-
--- node i is on core s: s is the supply above it
-pub data OnCore (plan : Plan) : ℕ → ℕ → Type 0 where
-  top : {i s : ℕ} → parentOf plan i ≡ Supply s → OnCore plan i s
-  under : {i h s : ℕ} → parentOf plan i ≡ Under h → OnCore plan h s → OnCore plan i s

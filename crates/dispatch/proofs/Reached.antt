@@ -35,7 +35,7 @@ use Rattle.dispatch.specs.Run.{
   outAfter,
   stepped,
 }
-use Rattle.dispatch.specs.Reached.{Reached, fresh, by-run, by-step, OneRun, ReachedAsOne}
+use Rattle.dispatch.specs.Reached.{Reached, at-start, by-run, by-step, OneRun, ReachedAsOne}
 
 -- a fresh start that is done is that of a plan that fits
 start-fit : (plan : Plan) → started plan .outcome ≡ done → isFit plan ≡ true
@@ -105,7 +105,7 @@ module _ (plan : Plan) (state : Standing) (supplies declines answers : List ℕ)
 
 pub reached-as-one : ReachedAsOne
 unfolding course courseTo
-reached-as-one plan state supplies declines answers (fresh e) =
+reached-as-one plan state supplies declines answers (at-start e) =
     let fit = start-fit plan e in
     record { fit = fit; alike = refl; stands = start-fresh plan fit; answered = refl }
 reached-as-one plan state supplies declines answers (by-run {state = s} {supplies = ss} {declines = ds} {answers = given} r more words out e) =

@@ -11,7 +11,7 @@ use Rattle.dispatch.specs.Run.{done, Standing, freshState, started, Cour
 -- A state reached from a fresh start by runs and steps that are done, with the supply bytes, the decline words and the answers of them all joined. A run's
 -- answers are the front of its buffer, a step's the first of its eight.
 pub data Reached (plan : Plan) : Standing → List ℕ → List ℕ → List ℕ → Type 0 where
-  fresh : started plan .outcome ≡ done → Reached plan (started plan .state) [] [] []
+  at-start : started plan .outcome ≡ done → Reached plan (started plan .state) [] [] []
   by-run : {state : Standing} {supplies declines answers : List ℕ} → Reached plan state supplies declines answers →
       (more words out : List ℕ) → ran plan state more words (length out) .outcome ≡ done →
       Reached plan (ran plan state more words (length out) .state) (supplies ++ more) (declines ++ words)

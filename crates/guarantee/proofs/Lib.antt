@@ -1,7 +1,2 @@
-pub mod Levels
-pub mod Dispatched
-pub mod Tree
-pub mod Window
-pub mod Run
 pub mod Kept
 pub mod Needed

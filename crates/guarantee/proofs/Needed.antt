@@ -1,12 +1,13 @@
--- What specs/Needed.antt says holds: the checker computes both plans from their bytes, and each run. Assumes nothing.
-use Prim.Native.Nat.{ℕ, zero, suc, _+_, _<_}
-use mathlib.Core.Bool.{Bool, true, false, not, true≢false}
-use mathlib.Core.List.{List}
+-- What specs/Needed.antt says holds: the checker computes the plans from their bytes, and each run. Assumes nothing.
+use Prim.Native.Nat.{ℕ, zero, suc, _+_, _*_, _%_, _≤_, _<_}
+use mathlib.Core.Bool.{Bool, true, false, not, cond, true≢false}
+use mathlib.Core.List.{List, [], _∷_}
 use mathlib.Core.Path.{_≡_, refl, ap}
+use native.Mathlib.Nat.{mul-add-mod-self-right}
 use native.Mathlib.Numerals.{add-one}
 use native.Mathlib.Omega.{arith}
 use lib.Dec.{ltb, eqb}
-use lib.ListN.{length, getD}
+use lib.ListN.{length, getD, replicate}
 use borrow.Author.Tests.{ltb-true, eqb-true, not-true}
 use Rattle.ticks.specs.Times.{inRange, isFit}
 use Rattle.meaning.specs.Allocation.{Allocation, ones}
@@ -16,10 +17,10 @@ use Rattle.meaning.specs.Written.{written}
 use Rattle.meaning.proofs.WellFormed.{bounds}
 use Rattle.types.specs.Decision.{judged}
 use Rattle.types.specs.Least.{step, turns, onesFrom, onesAt, leastOnes}
-use Rattle.answers.specs.Answers.{accepts, first, test, each}
-use Rattle.answers.specs.declared.Answer.the-variants.{Accepted}
+use Rattle.answers.specs.Answers.{Said, accepted, said, accepts, first, test, each}
 use Rattle.plans.specs.Plan.{nodeAt, supplyAt, hosting, isHost, wantedAs, ownType, same, isChild}
 use Rattle.plans.specs.Sound.{all, allows, parentAllowed, upTo, within, soundNode, soundSupply, counts, sound}
+use Rattle.plans.specs.Cores.{upward, coreTo, coreOf}
 use Rattle.plans.specs.declared.Plan.{Plan}
 use Rattle.plans.proofs.All.{all-true-at}
 use Rattle.plans.proofs.Kept.{sound-kept}
@@ -31,40 +32,36 @@ use Rattle.decode.specs.Decode.{kindNamed, parentNamed, isNamed, parentOr, supp
 use Rattle.names.specs.Names.{isLength, isLetter, letterAt, checkLetter, agreesAt, sameName, differs, isNew, checkName, checkNames}
 use Rattle.reader.specs.Read as read
 use Rattle.reader.specs.Read.{readPlan}
-use Rattle.reader.specs.declared.Reading.{Reading}
 use Rattle.dispatch.specs.View.{bitOf, isLeaf, servedC, servedT}
 use Rattle.dispatch.specs.Choice.{eligible, prefer, consider, chooseTo, choose}
-use Rattle.dispatch.specs.Slot.{refillOne, refillTo, refilled, charge, follow, walk, granting, serveCore, serveTo, slot}
+use Rattle.dispatch.specs.Slot.{due, refillOne, refillTo, refilled, charge, follow, walk, granting, serveCore, serveTo, slot}
 use Rattle.dispatch.specs.Run as run
-use Rattle.dispatch.specs.Run.{started, ran}
-use Rattle.dispatch.specs.declared.Outcome.{Outcome}
-use Rattle.dispatch.specs.declared.Outcome.the-variants.{Done}
-use Rattle.unending.specs.Unending.{any}
-use Rattle.guarantee.specs.Partition.{slotsOf, KeepsTypes, FirstPartOf, answered, receives}
+use Rattle.dispatch.specs.Run.{done, started, ran, outAfter}
+use Rattle.dispatch.specs.Reached.{Reached, at-start, by-run, by-step}
+use Rattle.unending.specs.Unending.{leftAt, slotAt, has, charged}
+use Rattle.partitions.specs.Case.{Case, slotsOf, KeepsTypes, OverFirstPart, FromFresh, DeclinesNowhere, asked, receives, received}
+use Rattle.partitions.proofs.Kept.{one-run-too}
+use Rattle.guarantee.specs.Promises.{Accepted}
 use Rattle.guarantee.specs.Needed.{
-  Case,
-  asked,
-  buffer,
-  received,
-  Runs,
-  Accepting,
-  Enough,
+  Basis,
+  Meets,
   always,
-  bus,
   logServed,
   doorServed,
+  duo,
+  oddToo,
+  duoServed,
   NotEmpty,
+  BoundsReached,
   supplyShort,
   doorDeclines,
   ShortSupply,
   DeclinedOnce,
   runEnds,
   OutsideRun,
-  pair,
   betweenWindows,
   OffMultiple,
 }
-use Rattle.guarantee.proofs.Kept.{guarantee-kept}
 
 -- a window of slots that are all set holds as many ones as slots
 ones-all : (α : Allocation) → ((n : ℕ) → α n ≡ true) → (s n : ℕ) → ones α s n ≡ n
@@ -78,11 +75,32 @@ unfolding slotsOf bitOf all
 core-always s l n = all-true-at (bitOf 255) 8 refl s l
 
 -- a supply of every core in every slot keeps a sound plan's types
-always-keeps : (plan : Plan) → sound plan ≡ true → KeepsTypes plan always
-always-keeps plan e s l b starts =
-    let is = sound-kept plan e in
-    rw (ones-all (slotsOf always s) (core-always s (omega (arith, is .eight-cores))) b (supplyAt plan s .t))
-    (bounds (supplyAt plan s) (is .supplies s l) .fits)
+always-keeps : (c : Case) → sound (c .plan) ≡ true → c .supply ≡ always → KeepsTypes c
+always-keeps c e full s l b starts =
+    let is = sound-kept (c .plan) e in
+    rw (full, ones-all (slotsOf always s) (core-always s (omega (arith, is .eight-cores))) b (supplyAt (c .plan) s .t))
+    (bounds (supplyAt (c .plan) s) (is .supplies s l) .fits)
+
+-- core 0 is supplied in even slots and in odd ones,
+even-and-odd : (n : ℕ) → slotsOf oddToo 0 n ≡ true
+unfolding slotsOf bitOf
+even-and-odd n = go (eqb (n % 2) 0)
+  where
+    go : (b : Bool) → bitOf (cond b 1 3) 0 ≡ true
+    go true = refl
+    go false = refl
+
+-- and core 1 in the second slot of every two
+every-second : (b : ℕ) → 1 ≤ ones (slotsOf oddToo 1) (b * 2) 2
+unfolding ones slotsOf bitOf
+every-second b = rw (mul-add-mod-self-right b 2 1) (omega arith)
+
+-- so that the supply keeps the types of both
+odd-keeps : KeepsTypes duoServed
+unfolding supplyAt
+odd-keeps zero l b starts = rw (ones-all (slotsOf oddToo 0) even-and-odd b 1) (omega arith)
+odd-keeps (suc zero) l b starts = rw (starts .1) (every-second (starts .0))
+odd-keeps (suc (suc s)) l b starts = absurd (omega arith)
 
 -- whether a run's supply byte k is the unending supply's, and whether leaf i accepts slot k
 begins : List ℕ → (ℕ → ℕ) → ℕ → Bool
@@ -92,79 +110,64 @@ takes : List ℕ → ℕ → ℕ → Bool
 takes declines i k = not (bitOf (getD declines k 0) i)
 
 -- a run over the first part of a supply, by a test of each slot
-first-by-test : (supplies : List ℕ) (supply : ℕ → ℕ) → all (begins supplies supply) (length supplies) ≡ true → FirstPartOf supplies supply
+first-by-test : (c : Case) → all (begins (c .supplies) (c .supply)) (length (c .supplies)) ≡ true → OverFirstPart c
 unfolding begins
-first-by-test supplies supply e k l = eqb-true (supply k) (getD supplies k 0) (all-true-at (begins supplies supply) (length supplies) e k l)
+first-by-test c e k l = eqb-true (c .supply k) (getD (c .supplies) k 0) (all-true-at (begins (c .supplies) (c .supply)) (length (c .supplies)) e k l)
 
 -- a leaf that declines nowhere in the run, by a test of each slot
-accepting : (c : Case) → all (takes (c .declines) (c .leaf)) (length (c .declines)) ≡ true → Accepting c
+accepting : (c : Case) → all (takes (c .declines) (c .partition)) (length (c .declines)) ≡ true → DeclinesNowhere c
 unfolding takes
 accepting c e x y l a b _ =
-    not-true (bitOf (getD (c .declines) x 0) (c .leaf)) (all-true-at (takes (c .declines) (c .leaf)) (length (c .declines)) e x l)
+    not-true (bitOf (getD (c .declines) x 0) (c .partition)) (all-true-at (takes (c .declines) (c .partition)) (length (c .declines)) e x l)
 
--- the hypotheses that are listed by cases are those of demand 3
-pub enough : Enough
-enough c answers asks gets r supplied starts inside accepts =
-    rw (← (r .asking), ← (r .getting))
-    (guarantee-kept (c .bytes) (c .plan) (c .supplies) (c .declines) (c .out) (r .fresh) (c .supply) (r .first) supplied (c .leaf) (r .partition) (c .window)
-    (record { starts = starts; inside = inside }) accepts)
-
--- what is computed of a case: how the plan's bytes are read, the run's outcome, whether the run is over the first part of the supply, whether the partition is
--- there and a host, what the buffer holds after the run, and the partition's numbers
+-- what is computed of a case: how the plan's bytes are read, whether the run is over the first part of the supply, whether the partition is there and a host,
+-- and the partition's numbers
 record Seen : Type 0 where
-  reading : Reading
-  outcome : Outcome
+  answer : Said
+  value : Plan
   first : Bool
   there : Bool
   host : Bool
-  holds : List ℕ
   asks : ℕ
   gets : ℕ
 
 look : Case → Seen
 look c =
     record {
-      reading = readPlan (c .bytes);
-      outcome = ran (c .plan) (started (c .plan) .state) (c .supplies) (c .declines) (length (c .out)) .outcome;
+      answer = said (readPlan (c .bytes) .answer);
+      value = readPlan (c .bytes) .plan;
       first = all (begins (c .supplies) (c .supply)) (length (c .supplies));
-      there = ltb (c .leaf) (c .plan .size);
-      host = isHost (c .plan) (c .leaf);
-      holds = buffer c;
+      there = ltb (c .partition) (c .plan .size);
+      host = isHost (c .plan) (c .partition);
       asks = asked c;
       gets = received c;
     }
 
--- a case that is seen so runs, and comes to its numbers
-runs : (c : Case) {answers : List ℕ} {asks gets : ℕ} →
-    look c ≡
-    record {
-      reading = record { answer = Accepted; plan = c .plan };
-      outcome = Done;
-      first = true;
-      there = true;
-      host = false;
-      holds = answers;
-      asks = asks;
-      gets = gets;
-    } →
-    Runs c answers asks gets
+-- a case from a fresh start that is seen so comes to its numbers
+basis : (c : Case) {asks gets : ℕ} → FromFresh c →
+    look c ≡ record { answer = accepted; value = c .plan; first = true; there = true; host = false; asks = asks; gets = gets } → Basis c asks gets
 unfolding look
-runs c e =
+basis c from e =
     record {
-      fresh = record { accepted = ap (λ s. s .reading) e; done = ap (λ s. s .outcome) e };
-      first = first-by-test (c .supplies) (c .supply) (ap (λ s. s .first) e);
-      partition = record { there = ltb-true (c .leaf) (c .plan .size) (ap (λ s. s .there) e); leaf = ap (λ s. s .host) e };
-      holding = ap (λ s. s .holds) e;
+      accepts = record { answer = ap (λ s. s .answer) e; value = ap (λ s. s .value) e };
+      first = first-by-test c (ap (λ s. s .first) e);
+      fresh = from;
+      partition = record { there = ltb-true (c .partition) (c .plan .size) (ap (λ s. s .there) e); leaf = ap (λ s. s .host) e };
       asking = ap (λ s. s .asks) e;
       getting = ap (λ s. s .gets) e;
     }
 
+-- one run into ten bytes of 9, which is neither a node nor 254 or 255, or into as many as there are answers
+by-one : (c : Case) (out : List ℕ) → ran (c .plan) (started (c .plan) .state) (c .supplies) (c .declines) (length out) .outcome ≡ done →
+    c .buffer ≡ outAfter (c .plan) (started (c .plan) .state) (c .supplies) (c .declines) out → FromFresh c
+by-one c out e h = one-run-too c (record { out = out; ends = e; holds = h })
+
 -- every case is computed
-computed : NotEmpty × ShortSupply × DeclinedOnce × OutsideRun × OffMultiple
+computed : NotEmpty × BoundsReached × ShortSupply × DeclinedOnce × OutsideRun × OffMultiple
 unfolding
     inRange isFit ones lowest wellFormed written judged step turns onesFrom onesAt leastOnes accepts first test each
     nodeAt supplyAt hosting isHost wantedAs ownType same isChild all allows parentAllowed upTo within soundNode soundSupply counts sound
-    sumTo mostTo childPeriod longest load loadTo owes side
+    upward coreTo coreOf sumTo mostTo childPeriod longest load loadTo owes side
     check.holding check.elevenAt check.twelveAt check.alike check.thirteenAt check.fourteenAt check.checkParent check.checkSupply check.checkHost
     check.rules check.checked check.isFit
     byteAt twoAt fourAt typeAt there checkType coresOf supplyStart nodesAt sizeOf nodeStart namesAt nameStart endAt
@@ -173,36 +176,88 @@ unfolding
     read.checkPart read.checkTick read.checkCount read.checkSupply read.checkSupplies read.checkKind read.checkParent read.checkNode read.checkNodes
     read.checkEnd read.checkBytes read.readAnswer read.readPlan
     bitOf isLeaf servedC servedT eligible prefer consider chooseTo choose
-    refillOne refillTo refilled charge follow walk granting serveCore serveTo slot
-    run.freshTo run.freshLeft run.started run.leftWithin run.ready run.outcome run.courseTo run.course run.ran run.outAfter
-    any slotsOf answered receives begins takes look
+    due refillOne refillTo refilled charge follow walk granting serveCore serveTo slot
+    run.freshTo run.freshLeft run.started run.leftWithin run.ready run.roomy run.inTime run.outcome run.courseTo run.course run.ran run.outAfter run.stepped
+    leftAt slotAt has charged slotsOf receives begins takes look
 computed = (
   (
-    (runs logServed refl, always-keeps bus refl, (0, refl), omega arith, accepting logServed refl),
-    (runs doorServed refl, always-keeps bus refl, tt, omega arith, accepting doorServed refl),
+    record {
+      basis = basis logServed (by-one logServed (replicate 10 9) refl refl) refl;
+      supplied = always-keeps logServed refl refl;
+      window = (0, refl);
+      inside = omega arith;
+      nowhere = accepting logServed refl;
+    },
+    record {
+      basis = basis doorServed (by-one doorServed (replicate 10 9) refl refl) refl;
+      supplied = always-keeps doorServed refl refl;
+      window = tt;
+      inside = omega arith;
+      nowhere = accepting doorServed refl;
+    },
+    record {
+      basis = basis duoServed (record { state = _; answers = _; beyond = []; reached = three; holds = refl }) refl;
+      supplied = odd-keeps;
+      window = (1, refl);
+      inside = omega arith;
+      nowhere = accepting duoServed refl;
+    },
   ),
-  (runs supplyShort refl, λ keeps. omega (arith, keeps 0 (omega arith) 2 (2, refl)), tt, omega arith, accepting supplyShort refl),
-  (runs doorDeclines refl, always-keeps bus refl, tt, omega arith, λ accepts. true≢false (accepts 2 2 (omega arith) (omega arith) (omega arith) refl)),
-  (runs runEnds refl, always-keeps bus refl, tt, λ inside. omega arith, accepting runEnds refl),
-  (runs betweenWindows refl, always-keeps pair refl, λ starts. omega (arith, starts .1), omega arith, accepting betweenWindows refl),
+  (refl, refl),
+  (
+    basis supplyShort (by-one supplyShort (replicate 10 9) refl refl) refl,
+    λ keeps. omega (arith, keeps 0 (omega arith) 2 (2, refl)),
+    tt,
+    omega arith,
+    accepting supplyShort refl,
+  ),
+  (
+    basis doorDeclines (by-one doorDeclines (replicate 10 9) refl refl) refl,
+    always-keeps doorDeclines refl refl,
+    tt,
+    omega arith,
+    λ accepts. true≢false (accepts 2 2 (omega arith) (omega arith) (omega arith) refl),
+  ),
+  (
+    basis runEnds (by-one runEnds (replicate 10 9) refl refl) refl,
+    always-keeps runEnds refl refl,
+    tt,
+    λ inside. omega arith,
+    accepting runEnds refl,
+  ),
+  (
+    basis betweenWindows (by-one betweenWindows (replicate 4 9) refl refl) refl,
+    always-keeps betweenWindows refl refl,
+    λ starts. omega (arith, starts .1),
+    omega arith,
+    accepting betweenWindows refl,
+  ),
 )
+  where
+    -- a run of one, a step, and a run of two
+    three : Reached duo (record { clock = 4; left = 0 ∷ 0 ∷ replicate 62 0 }) (1 ∷ 3 ∷ 1 ∷ 3 ∷ []) (replicate 4 0) (0 ∷ 255 ∷ 254 ∷ 1 ∷ 0 ∷ 255 ∷ 254 ∷ 1 ∷ [])
+    three = by-run (by-step (by-run (at-start refl) (1 ∷ []) (0 ∷ []) (replicate 2 9) refl) 3 0 refl) (1 ∷ 3 ∷ []) (0 ∷ 0 ∷ []) (replicate 4 9) refl
 
 -- demand 3 is not empty
 pub not-empty : NotEmpty
 not-empty = computed .0
 
+-- and its bounds from above are reached
+pub bounds-reached : BoundsReached
+bounds-reached = computed .1
+
 -- a supply that falls short can cost a partition a slot that it asked for
 pub short-supply : ShortSupply
-short-supply = computed .1
+short-supply = computed .2
 
 -- so can one decline
 pub declined-once : DeclinedOnce
-declined-once = computed .2
+declined-once = computed .3
 
 -- so can the end of the run
 pub outside-run : OutsideRun
-outside-run = computed .3
+outside-run = computed .4
 
 -- so can a window that starts at no multiple of an aligned leaf's period
 pub off-multiple : OffMultiple
-off-multiple = computed .4
+off-multiple = computed .5

@@ -1,3 +1,2 @@
-pub mod Partition
 pub mod Promises
 pub mod Needed

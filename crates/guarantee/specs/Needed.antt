@@ -1,94 +1,55 @@
--- Demand 3 is not empty, and each of its hypotheses is needed: short runs of two small plans, with the numbers that they give. Why each statement holds
--- is in proofs/. Assumes nothing.
-use Prim.Native.Nat.{ℕ, _+_, _≤_}
+-- Demand 3 is not empty, its bounds are reached, and each of its hypotheses is needed: short runs of three small plans, with the numbers that they give. Why
+-- each statement holds is in proofs/. Assumes nothing.
+use Prim.Native.Nat.{ℕ, _%_, _*_}
 use mathlib.Core.Bool.{cond}
-use mathlib.Core.List.{List, [], _∷_}
+use mathlib.Core.List.{List, [], _∷_, _++_}
 use mathlib.Core.Path.{_≡_}
 use lib.Dec.{eqb}
-use lib.ListN.{length, replicate}
+use lib.ListN.{replicate}
 use Rattle.meaning.specs.Allocation.{ones}
-use Rattle.meaning.specs.Types.{_of_, Starts}
-use Rattle.meaning.specs.declared.SlotType.{SlotType}
-use Rattle.plans.specs.Plan.{zeroType, zeroNode, kindOf, wantedOf, wantedAs}
+use Rattle.meaning.specs.Types.{_of_}
+use Rattle.plans.specs.Plan.{zeroType, zeroNode, servedOf}
 use Rattle.plans.specs.declared.Node.{Node}
 use Rattle.plans.specs.declared.NodeKind.the-variants.{AlignedLeaf, SlidingLeaf, Host}
 use Rattle.plans.specs.declared.Parent.the-variants.{Supply, Node as Under}
 use Rattle.plans.specs.declared.Plan.{Plan}
-use Rattle.guarantee.specs.Partition.{
+use Rattle.partitions.specs.Case.{
+  Case,
   KeepsTypes,
-  FirstPartOf,
-  FreshRun,
-  written,
-  receives,
-  Partition,
-  WindowInside,
+  OverFirstPart,
+  FromFresh,
+  IsPartition,
+  ItsWindow,
+  InsideRun,
   DeclinesNowhere,
+  asked,
+  receives,
+  received,
+  charges,
 }
+use Rattle.guarantee.specs.Promises.{Accepted}
 
--- What `Guarantee` speaks of: a plan's bytes and its value, a run's supply bytes, decline words and buffer, an unending supply, a partition, and where a
--- window of it starts.
-pub record Case : Type 0 where
-  pub bytes : List ℕ
-  pub plan : Plan
-  pub supplies : List ℕ
-  pub declines : List ℕ
-  pub out : List ℕ
-  pub supply : ℕ → ℕ
-  pub leaf : ℕ
-  pub window : ℕ
-
--- how many slots the partition asked for, in how many, and how many it receives in the window
-abbrev pub asked : Case → ℕ
-asked c = wantedOf (c .plan) (c .leaf) .c
-
-abbrev pub period : Case → ℕ
-period c = wantedOf (c .plan) (c .leaf) .t
-
-abbrev pub buffer : Case → List ℕ
-buffer c = written (c .plan) (c .supplies) (c .declines) (c .out)
-
-abbrev pub received : Case → ℕ
-received c = ones (receives (c .plan) (buffer c) (c .leaf)) (c .window) (period c)
-
--- A run of the case, from a fresh start of an accepted plan and over the first part of the supply, and a partition of the plan; and the numbers that the case
--- comes to: what the buffer holds after the run, how many slots the partition asked for, and how many it receives in the window.
-pub record Runs (c : Case) (answers : List ℕ) (asks gets : ℕ) : Type 0 where
-  pub fresh : FreshRun (c .bytes) (c .plan) (c .supplies) (c .declines) (c .out)
-  pub first : FirstPartOf (c .supplies) (c .supply)
-  pub partition : Partition (c .plan) (c .leaf)
-  pub holding : buffer c ≡ answers
+-- What every case below has: an accepted plan, runs from a fresh start over the first part of the supply, and a partition of the plan; and the numbers that
+-- the case comes to, how many slots the partition asked for and how many it received in the window.
+pub record Basis (c : Case) (asks gets : ℕ) : Type 0 where
+  pub accepts : Accepted c
+  pub first : OverFirstPart c
+  pub fresh : FromFresh c
+  pub partition : IsPartition c
   pub asking : asked c ≡ asks
   pub getting : received c ≡ gets
 
--- The other hypotheses of `Guarantee`: the supply keeps its types;
-abbrev pub Supplied : Case → Type 0
-Supplied c = KeepsTypes (c .plan) (c .supply)
-
--- the window starts where the partition's windows do;
-abbrev pub Starting : Case → Type 0
-Starting c = Starts (wantedAs (kindOf (c .plan) (c .leaf))) (period c) (c .window)
-
--- it lies inside the run;
-abbrev pub Inside : Case → Type 0
-Inside c = c .window + period c ≤ length (c .supplies)
-
--- and the partition declines in no slot of its served periods that touch the window.
-abbrev pub Accepting : Case → Type 0
-Accepting c = DeclinesNowhere (c .plan) (c .declines) (c .leaf) (c .window)
-
--- There are no more of them: where they hold, the partition receives what it asked for.
-abbrev pub Enough : Type 0
-Enough =
-    (c : Case) (answers : List ℕ) (asks gets : ℕ) → Runs c answers asks gets →
-    Supplied c → Starting c → Inside c → Accepting c → asks ≤ gets
+-- a case that meets every hypothesis of `Guarantee`
+pub record Meets (c : Case) (asks gets : ℕ) : Type 0 where
+  pub basis : Basis c asks gets
+  pub supplied : KeepsTypes c
+  pub window : ItsWindow c
+  pub inside : InsideRun c
+  pub nowhere : DeclinesNowhere c
 
 -- every core is supplied in every slot
 abbrev pub always : ℕ → ℕ
 always n = 255
-
--- room for ten answers; 9 is neither a node of the plans below nor 254 or 255
-abbrev pub room : List ℕ
-room = replicate 10 9
 
 -- The plan of document 01, "The program `busplan` reads a plan": the whole of one core, for the host `body` (node 0) with the leaf `log` (node 1) under it,
 -- and for the sliding leaf `door` (node 2).
@@ -123,65 +84,109 @@ bus =
           replicate 61 zeroNode;
     }
 
--- a run of that plan, and the first window of one of its leaves
-abbrev pub onBus : List ℕ → List ℕ → (ℕ → ℕ) → ℕ → Case
-onBus supplies declines supply leaf =
+-- Ten slots of that plan, and the first window of one of its leaves.
+abbrev pub onBus : (ℕ → ℕ) → List ℕ → List ℕ → List ℕ → ℕ → Case
+onBus supply supplies declines buffer leaf =
     record {
       bytes = busBytes;
       plan = bus;
+      supply = supply;
       supplies = supplies;
       declines = declines;
-      out = room;
-      supply = supply;
-      leaf = leaf;
+      buffer = buffer;
+      partition = leaf;
       window = 0;
     }
 
 -- Nobody declines for ten slots: `log` asked for 1 slot in 9 and receives slots 0, 4 and 8.
 abbrev pub logServed : Case
-logServed = onBus (replicate 10 255) (replicate 10 0) always 1
+logServed = onBus always (replicate 10 255) (replicate 10 0) (1 ∷ 254 ∷ 2 ∷ 2 ∷ 1 ∷ 254 ∷ 2 ∷ 2 ∷ 1 ∷ 254 ∷ []) 1
 
 -- `log` declines in every slot: `door` asked for 4 in 10 and receives slots 2, 3, 6 and 7.
 abbrev pub doorServed : Case
-doorServed = onBus (replicate 10 255) (replicate 10 2) always 2
+doorServed = onBus always (replicate 10 255) (replicate 10 2) (254 ∷ 254 ∷ 2 ∷ 2 ∷ 254 ∷ 254 ∷ 2 ∷ 2 ∷ 254 ∷ 254 ∷ []) 2
 
--- Demand 3 is not empty: both meet every hypothesis, and `door` receives no more than it asked for.
+-- Two cores, of which the second is stated as every other slot only, and a leaf with every other slot of each: `a` (node 0) on core 0, `b` (node 1) on core 1.
+abbrev pub duoBytes : List ℕ
+duoBytes =
+    0x01 ∷ 0xE8 ∷ 0x03 ∷ 0x00 ∷ 0x00 ∷ 0x03 ∷ 0x00 ∷ 0x00 ∷ 0x00 ∷
+    0x02 ∷ 0x01 ∷ 0x00 ∷ 0x01 ∷ 0x00 ∷ 0x01 ∷ 0x00 ∷ 0x02 ∷ 0x00 ∷
+    0x02 ∷
+    0x00 ∷ 0x00 ∷ 0x01 ∷ 0x00 ∷ 0x02 ∷ 0x00 ∷ 0x01 ∷ 0x00 ∷ 0x02 ∷ 0x00 ∷
+    0x00 ∷ 0x01 ∷ 0x01 ∷ 0x00 ∷ 0x02 ∷ 0x00 ∷ 0x01 ∷ 0x00 ∷ 0x02 ∷ 0x00 ∷
+    0x02 ∷
+    0x01 ∷ 0x61 ∷
+    0x01 ∷ 0x62 ∷
+    []
+
+abbrev pub duo : Plan
+duo =
+    record {
+      tick = record { p = 1_000; q = 3 };
+      cores = 2;
+      supplies = (1 of 1) ∷ (1 of 2) ∷ replicate 6 zeroType;
+      size = 2;
+      nodes =
+          record { kind = AlignedLeaf; parent = Supply 0; wanted = 1 of 2; served = 1 of 2 } ∷
+          record { kind = AlignedLeaf; parent = Supply 1; wanted = 1 of 2; served = 1 of 2 } ∷
+          replicate 62 zeroNode;
+    }
+
+-- core 0 in every slot, core 1 in the odd ones
+abbrev pub oddToo : ℕ → ℕ
+oddToo n = cond (eqb (n % 2) 0) 1 3
+
+-- Four slots, in three calls: a run of one, a step, and a run of two. In its window from slot 2 on `b` asked for 1 slot and receives slot 3, and no more.
+abbrev pub duoServed : Case
+duoServed =
+    record {
+      bytes = duoBytes;
+      plan = duo;
+      supply = oddToo;
+      supplies = 1 ∷ 3 ∷ 1 ∷ 3 ∷ [];
+      declines = replicate 4 0;
+      buffer = 0 ∷ 255 ∷ 254 ∷ 1 ∷ 0 ∷ 255 ∷ 254 ∷ 1 ∷ [];
+      partition = 1;
+      window = 2;
+    }
+
+-- Demand 3 is not empty: all three meet every hypothesis, and two receive no more than they asked for.
 abbrev pub NotEmpty : Type 0
-NotEmpty =
-    (Runs logServed (1 ∷ 254 ∷ 2 ∷ 2 ∷ 1 ∷ 254 ∷ 2 ∷ 2 ∷ 1 ∷ 254 ∷ []) 1 3 ×
-    Supplied logServed × Starting logServed × Inside logServed × Accepting logServed) ×
-    (Runs doorServed (254 ∷ 254 ∷ 2 ∷ 2 ∷ 254 ∷ 254 ∷ 2 ∷ 2 ∷ 254 ∷ 254 ∷ []) 4 4 ×
-    Supplied doorServed × Starting doorServed × Inside doorServed × Accepting doorServed)
+NotEmpty = Meets logServed 1 3 × Meets doorServed 4 4 × Meets duoServed 1 1
+
+-- The bounds from above are reached too: `door` is granted its served 2 in the first four slots, and its neighbour, the host `body`, is charged its own 2 there.
+abbrev pub BoundsReached : Type 0
+BoundsReached =
+    (ones (receives bus (logServed .buffer) 2) (0 * servedOf bus 2 .t) (servedOf bus 2 .t) ≡ servedOf bus 2 .c) ×
+    (ones (charges logServed 0) (0 * servedOf bus 0 .t) (servedOf bus 0 .t) ≡ servedOf bus 0 .c)
 
 -- The core, of which every slot is stated, is not supplied in slot 2: `door` receives slots 3, 6 and 7, one fewer than it asked for.
 abbrev pub allButSlotTwo : ℕ → ℕ
 allButSlotTwo n = cond (eqb n 2) 0 255
 
 abbrev pub supplyShort : Case
-supplyShort = onBus (255 ∷ 255 ∷ 0 ∷ replicate 7 255) (replicate 10 0) allButSlotTwo 2
+supplyShort =
+    onBus allButSlotTwo (255 ∷ 255 ∷ 0 ∷ replicate 7 255) (replicate 10 0) (1 ∷ 254 ∷ 255 ∷ 2 ∷ 1 ∷ 254 ∷ 2 ∷ 2 ∷ 1 ∷ 254 ∷ []) 2
 
 abbrev pub ShortSupply : Type 0
 ShortSupply =
-    Runs supplyShort (1 ∷ 254 ∷ 255 ∷ 2 ∷ 1 ∷ 254 ∷ 2 ∷ 2 ∷ 1 ∷ 254 ∷ []) 4 3 ×
-    (Supplied supplyShort → ⊥) × Starting supplyShort × Inside supplyShort × Accepting supplyShort
+    Basis supplyShort 4 3 × (KeepsTypes supplyShort → ⊥) × ItsWindow supplyShort × InsideRun supplyShort × DeclinesNowhere supplyShort
 
 -- `door` declines in slot 2, and its served period has only slot 3 left for it.
 abbrev pub doorDeclines : Case
-doorDeclines = onBus (replicate 10 255) (0 ∷ 0 ∷ 4 ∷ replicate 7 0) always 2
+doorDeclines =
+    onBus always (replicate 10 255) (0 ∷ 0 ∷ 4 ∷ replicate 7 0) (1 ∷ 254 ∷ 254 ∷ 2 ∷ 1 ∷ 254 ∷ 2 ∷ 2 ∷ 1 ∷ 254 ∷ []) 2
 
 abbrev pub DeclinedOnce : Type 0
 DeclinedOnce =
-    Runs doorDeclines (1 ∷ 254 ∷ 254 ∷ 2 ∷ 1 ∷ 254 ∷ 2 ∷ 2 ∷ 1 ∷ 254 ∷ []) 4 3 ×
-    Supplied doorDeclines × Starting doorDeclines × Inside doorDeclines × (Accepting doorDeclines → ⊥)
+    Basis doorDeclines 4 3 × KeepsTypes doorDeclines × ItsWindow doorDeclines × InsideRun doorDeclines × (DeclinesNowhere doorDeclines → ⊥)
 
--- The run ends after seven slots, and the rest of the buffer is as it was.
+-- The run ends after seven slots, and the rest of the buffer is as it was: 9 is neither a node nor 254 or 255.
 abbrev pub runEnds : Case
-runEnds = onBus (replicate 7 255) (replicate 7 0) always 2
+runEnds = onBus always (replicate 7 255) (replicate 7 0) (1 ∷ 254 ∷ 2 ∷ 2 ∷ 1 ∷ 254 ∷ 2 ∷ 9 ∷ 9 ∷ 9 ∷ []) 2
 
 abbrev pub OutsideRun : Type 0
-OutsideRun =
-    Runs runEnds (1 ∷ 254 ∷ 2 ∷ 2 ∷ 1 ∷ 254 ∷ 2 ∷ 9 ∷ 9 ∷ 9 ∷ []) 4 3 ×
-    Supplied runEnds × Starting runEnds × (Inside runEnds → ⊥) × Accepting runEnds
+OutsideRun = Basis runEnds 4 3 × KeepsTypes runEnds × ItsWindow runEnds × (InsideRun runEnds → ⊥) × DeclinesNowhere runEnds
 
 -- A plan with two aligned leaves, `a` (node 0) and `b` (node 1), each with every other slot of one core.
 abbrev pub pairBytes : List ℕ
@@ -215,15 +220,14 @@ betweenWindows =
     record {
       bytes = pairBytes;
       plan = pair;
+      supply = always;
       supplies = replicate 4 255;
       declines = 1 ∷ 0 ∷ 0 ∷ 0 ∷ [];
-      out = room;
-      supply = always;
-      leaf = 1;
+      buffer = 1 ∷ 0 ∷ 0 ∷ 1 ∷ [];
+      partition = 1;
       window = 1;
     }
 
 abbrev pub OffMultiple : Type 0
 OffMultiple =
-    Runs betweenWindows (1 ∷ 0 ∷ 0 ∷ 1 ∷ replicate 6 9) 1 0 ×
-    Supplied betweenWindows × (Starting betweenWindows → ⊥) × Inside betweenWindows × Accepting betweenWindows
+    Basis betweenWindows 1 0 × KeepsTypes betweenWindows × (ItsWindow betweenWindows → ⊥) × InsideRun betweenWindows × DeclinesNowhere betweenWindows

@@ -3,43 +3,49 @@
 -- declines in no slot of its served periods that touch that window. No partition or virtual host is ever granted more than its served number in one
 -- aligned served period, even where the supply falls short." Why each holds is in proofs/. Assumes nothing.
 use Prim.Native.Nat.{ℕ, _+_, _*_, _≤_}
-use mathlib.Core.List.{List}
 use mathlib.Core.Path.{_≡_}
 use lib.ListN.{length}
 use Rattle.meaning.specs.Allocation.{ones}
-use Rattle.plans.specs.Plan.{There, wantedOf, servedOf}
-use Rattle.plans.specs.declared.Plan.{Plan}
-use Rattle.rules.specs.Fit.{Fit}
-use Rattle.unending.specs.Unending.{charged}
-use Rattle.guarantee.specs.Partition.{
+use Rattle.answers.specs.Answers.{accepted, said}
+use Rattle.plans.specs.Plan.{There, servedOf}
+use Rattle.reader.specs.Read.{readPlan}
+use Rattle.partitions.specs.Case.{
+  Case,
   KeepsTypes,
-  FirstPartOf,
-  FreshRun,
-  written,
-  receives,
-  Partition,
-  WindowInside,
+  OverFirstPart,
+  FromFresh,
+  IsPartition,
+  ItsWindow,
+  InsideRun,
   DeclinesNowhere,
+  asked,
+  receives,
+  received,
+  charges,
 }
+
+-- "Take an accepted plan": its bytes are accepted, and read as this value
+pub record Accepted (c : Case) : Type 0 where
+  pub answer : said (readPlan (c .bytes) .answer) ≡ accepted
+  pub value : readPlan (c .bytes) .plan ≡ c .plan
 
 -- a partition receives what it asked for in each of its windows inside the run
 abbrev pub Guarantee : Type 0
 Guarantee =
-    (bytes : List ℕ) (plan : Plan) (supplies declines out : List ℕ) → FreshRun bytes plan supplies declines out →
-    (supply : ℕ → ℕ) → FirstPartOf supplies supply → KeepsTypes plan supply →
-    (i : ℕ) → Partition plan i →
-    (w : ℕ) → WindowInside plan i (length supplies) w → DeclinesNowhere plan declines i w →
-    wantedOf plan i .c ≤ ones (receives plan (written plan supplies declines out) i) w (wantedOf plan i .t)
+    (c : Case) → Accepted c → KeepsTypes c → OverFirstPart c → FromFresh c → IsPartition c → ItsWindow c → InsideRun c → DeclinesNowhere c →
+    asked c ≤ received c
 
 -- no partition is granted more than its served number in a served period, or in so much of one as lies inside the run, under any supply
 abbrev pub NeverMore : Type 0
 NeverMore =
-    (bytes : List ℕ) (plan : Plan) (supplies declines out : List ℕ) → FreshRun bytes plan supplies declines out →
-    (i : ℕ) → Partition plan i → (b n : ℕ) → n ≤ servedOf plan i .t → b * servedOf plan i .t + n ≤ length supplies →
-    ones (receives plan (written plan supplies declines out) i) (b * servedOf plan i .t) n ≤ servedOf plan i .c
+    (c : Case) → Accepted c → FromFresh c → IsPartition c →
+    let T : ℕ = servedOf (c .plan) (c .partition) .t in
+    (b n : ℕ) → n ≤ T → b * T + n ≤ length (c .supplies) →
+    ones (receives (c .plan) (c .buffer) (c .partition)) (b * T) n ≤ servedOf (c .plan) (c .partition) .c
 
--- and no node, partition or host, is charged more than that in any served period, under any supply and whoever declines
-abbrev pub NeverChargedMore : Type 0
-NeverChargedMore =
-    (plan : Plan) → Fit plan → (supply declines : ℕ → ℕ) (i b : ℕ) → There plan i →
-    ones (charged plan supply declines i) (b * servedOf plan i .t) (servedOf plan i .t) ≤ servedOf plan i .c
+-- and no node, partition or virtual host, is charged more than that
+abbrev pub NeverCharged : Type 0
+NeverCharged =
+    (c : Case) → Accepted c → FromFresh c → (i : ℕ) → There (c .plan) i →
+    let T : ℕ = servedOf (c .plan) i .t in
+    (b n : ℕ) → n ≤ T → b * T + n ≤ length (c .supplies) → ones (charges c i) (b * T) n ≤ servedOf (c .plan) i .c

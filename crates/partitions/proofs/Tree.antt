@@ -8,7 +8,7 @@ use native.Mathlib.Omega.{arith}
 use Rattle.meaning.specs.Allocation.{Allocation}
 use Rattle.meaning.specs.Types.{Honours}
 use Rattle.meaning.specs.declared.Kind.the-variants.{Aligned}
-use Rattle.plans.specs.Plan.{parentOf, kindOf, servedOf, isHost, wantedAs, ownType}
+use Rattle.plans.specs.Plan.{parentOf, kindOf, servedOf, isHost, wantedAs, ownType, supplyAt}
 use Rattle.plans.specs.declared.NodeKind.{NodeKind}
 use Rattle.plans.specs.declared.NodeKind.the-variants.{Host}
 use Rattle.plans.specs.declared.Parent.{Parent}
@@ -21,15 +21,15 @@ use Rattle.dispatch.specs.View.{isLeaf, servedC, servedT}
 use Rattle.unending.specs.Unending.{charged, may}
 use Rattle.levels.specs.Level.{Offered}
 use Rattle.levels.proofs.Level.{offered-honours}
-use Rattle.guarantee.specs.Partition.{slotsOf, KeepsTypes}
-use Rattle.guarantee.proofs.Levels.{levelOf, Keeps, in-level, level-kept}
+use Rattle.partitions.specs.Case.{slotsOf}
+use Rattle.partitions.proofs.Levels.{levelOf, Keeps, in-level, level-kept}
 
 -- a host wants its type aligned
 wanted-aligned : (k : NodeKind) → k ≡ Host → wantedAs k ≡ Aligned
 unfolding wantedAs
 wanted-aligned k e = rw e
 
-module _ (plan : Plan) (fit : Fit plan) (supply declines : ℕ → ℕ) (keeps : Keeps plan supply declines) (supplied : KeepsTypes plan supply) where
+module _ (plan : Plan) (fit : Fit plan) (supply declines : ℕ → ℕ) (keeps : Keeps plan supply declines) (supplied : (s : ℕ) → s < plan .cores → Honours Aligned (supplyAt plan s) (slotsOf supply s)) where
   -- where node i's parent honours its own type, an allocation that has every slot offered to i honours i's served type
   below : (i : ℕ) → i < plan .size → Honours Aligned (ownType plan (parentOf plan i)) (may plan supply declines (parentOf plan i)) →
       (α : Allocation) → ((n : ℕ) → Offered (levelOf plan supply declines (parentOf plan i)) i n → α n ≡ true) →

@@ -7,18 +7,19 @@ use native.Mathlib.Omega.{arith}
 use lib.Dec.{eqb}
 use borrow.Author.Tests.{eqb-true, eq-eqb}
 use Rattle.meaning.specs.Allocation.{Allocation, ones}
-use Rattle.meaning.specs.Types.{Starts}
+use Rattle.meaning.specs.Types.{Starts, Honours}
+use Rattle.meaning.specs.declared.Kind.the-variants.{Aligned}
 use Rattle.owed.proofs.Ones.{ones-ext}
-use Rattle.plans.specs.Plan.{parentOf, kindOf, wantedOf, servedOf, wantedAs}
+use Rattle.plans.specs.Plan.{parentOf, kindOf, wantedOf, servedOf, wantedAs, supplyAt}
 use Rattle.plans.specs.declared.Plan.{Plan}
 use Rattle.rules.specs.Fit.{Fit}
 use Rattle.dispatch.specs.View.{bitOf}
-use Rattle.unending.specs.Unending.{any, charged}
-use Rattle.unending.proofs.Any.{any-found, any-here}
+use Rattle.unending.specs.Unending.{charged}
 use Rattle.levels.specs.Level.{Offered}
-use Rattle.guarantee.specs.Partition.{KeepsTypes}
-use Rattle.guarantee.proofs.Levels.{levelOf, Keeps}
-use Rattle.guarantee.proofs.Tree.{offered-served}
+use Rattle.partitions.specs.Case.{slotsOf}
+use Rattle.partitions.proofs.Any.{any, any-found, any-here}
+use Rattle.partitions.proofs.Levels.{levelOf, Keeps}
+use Rattle.partitions.proofs.Tree.{offered-served}
 
 -- slot n lies in the same period of T slots as slot w + k
 together : ℕ → ℕ → ℕ → ℕ → Bool
@@ -52,7 +53,7 @@ module _ (T w L : ℕ) (α : Allocation) where
           h k below (eqb-true (n / T) ((w + k) / T) at)
       go false e = refl
 
-module _ (plan : Plan) (fit : Fit plan) (supply declines : ℕ → ℕ) (keeps : Keeps plan supply declines) (supplied : KeepsTypes plan supply) where
+module _ (plan : Plan) (fit : Fit plan) (supply declines : ℕ → ℕ) (keeps : Keeps plan supply declines) (supplied : (s : ℕ) → s < plan .cores → Honours Aligned (supplyAt plan s) (slotsOf supply s)) where
   -- under a supply that keeps its types a node that declines in no served period touching a wanted window is charged what it asked for there
   pub window-served : (i : ℕ) → i < plan .size → (w : ℕ) → Starts (wantedAs (kindOf plan i)) (wantedOf plan i .t) w →
       ((x y : ℕ) → w ≤ y → y < w + wantedOf plan i .t → x / servedOf plan i .t ≡ y / servedOf plan i .t → bitOf (declines x) i ≡ false) →

@@ -18,7 +18,7 @@ use Rattle.unending.specs.Unending.{has, charged, may}
 use Rattle.unending.proofs.Slots.{startAt}
 use Rattle.unending.proofs.Kept.{charged-exactly, balance, one-child}
 use Rattle.levels.specs.Level.{Offered}
-use Rattle.guarantee.proofs.Levels.{sooner, smaller-sooner, lower-sooner, sooner-other, levelOf, Keeps, in-level, in-plan}
+use Rattle.partitions.proofs.Levels.{sooner, smaller-sooner, lower-sooner, sooner-other, levelOf, Keeps, in-level, in-plan}
 
 -- a leaf that does not decline, and a node that is no leaf, are not passed over
 willing : (leaf declines : Bool) → (leaf ≡ true → declines ≡ false) → (leaf && declines) ≡ false

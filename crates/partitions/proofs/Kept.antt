@@ -1,0 +1,100 @@
+-- What specs/Promises.antt says of demand 3, for a plan value that fits, holds. Assumes nothing.
+use Prim.Native.Nat.{ℕ, suc, _+_, _*_, _/_, _^_, _≤_, _<_}
+use mathlib.Core.Bool.{false, true}
+use mathlib.Core.List.{List, [], _++_, append-nil}
+use mathlib.Core.Path.{_≡_, refl, sym, ap, _∙_}
+use native.Mathlib.Nat.{zero-div}
+use native.Mathlib.Decide.{decLe}
+use native.Mathlib.Omega.{arith}
+use lib.ListN.{length, getD, take, drop, take-append-drop, List·getD-eq-default}
+use Rattle.meaning.specs.Allocation.{ones}
+use Rattle.owed.proofs.Ones.{ones-ext}
+use Rattle.plans.specs.Plan.{There, wantedOf, servedOf}
+use Rattle.plans.specs.declared.Plan.{Plan}
+use Rattle.plans.proofs.All.{left-true}
+use Rattle.rules.specs.Check.{isFit}
+use Rattle.rules.specs.Fit.{Fit}
+use Rattle.dispatch.specs.View.{bitOf, isLeaf, servedC, servedT}
+use Rattle.dispatch.specs.Run.{done, Standing, started, ready, ran, outAfter}
+use Rattle.dispatch.specs.Reached.{at-start, by-run}
+use Rattle.dispatch.proofs.Refusals.{done-tests}
+use Rattle.unending.specs.Unending.{charged}
+use Rattle.unending.proofs.Kept.{granted-exactly, balance-after}
+use Rattle.levels.proofs.Books.{never-over-yet}
+use Rattle.partitions.specs.Case.{Case, FromFresh, IsPartition, DeclinesNowhere, receives, period}
+use Rattle.partitions.specs.Promises.{Served, NeverServedMore, NeverChargedMore, CountsTell, OneRunToo}
+use Rattle.partitions.proofs.Dispatched.{dispatcher-keeps}
+use Rattle.partitions.proofs.Window.{window-served}
+use Rattle.partitions.proofs.Run.{listed, run-granted, run-left}
+
+-- nobody declines in a word of zeros
+none-declines : (i : ℕ) → bitOf 0 i ≡ false
+unfolding bitOf
+none-declines i = rw (zero-div (2 ^ i))
+
+-- a partition that declines nowhere in the run declines in no slot of its served periods that touch the window
+declines-nowhere : (c : Case) → DeclinesNowhere c → (x y : ℕ) → c .window ≤ y → y < c .window + period c →
+    x / servedOf (c .plan) (c .partition) .t ≡ y / servedOf (c .plan) (c .partition) .t → bitOf (listed (c .declines) x) (c .partition) ≡ false
+declines-nowhere c nowhere x y l m e = go (decLe (length (c .declines)) x)
+  where
+    go : Dec (length (c .declines) ≤ x) → bitOf (listed (c .declines) x) (c .partition) ≡ false
+    go (yes past) = rw (List·getD-eq-default (c .declines) 0 past) (none-declines (c .partition))
+    go (no inside) = nowhere x y (omega arith) l m e
+
+module _ (c : Case) (fit : Fit (c .plan)) (fresh : FromFresh c) (is : IsPartition c) where
+  -- in a window inside the run a partition receives the slots in which it is charged
+  received-charged : (supply : ℕ → ℕ) → ((k : ℕ) → k < length (c .supplies) → supply k ≡ getD (c .supplies) k 0) → (w n : ℕ) →
+      w + n ≤ length (c .supplies) →
+      ones (receives (c .plan) (c .buffer) (c .partition)) w n ≡ ones (charged (c .plan) supply (listed (c .declines)) (c .partition)) w n
+  unfolding isLeaf
+  received-charged supply first w n inside =
+      ones-ext (receives (c .plan) (c .buffer) (c .partition)) (charged (c .plan) supply (listed (c .declines)) (c .partition)) w n
+      (λ m a b.
+      run-granted c fit fresh supply first (c .partition) m (is .there) (omega arith) ∙
+      granted-exactly (c .plan) fit supply (listed (c .declines)) (c .partition) m (is .there) (rw (is .leaf)))
+
+-- a partition receives what it asked for in each of its windows inside the run
+pub served : Served
+served c fit supplied first fresh is window inside nowhere =
+    rw (received-charged c fit fresh is (c .supply) first (c .window) (period c) inside)
+    (window-served (c .plan) fit (c .supply) (listed (c .declines)) (dispatcher-keeps (c .plan) fit (c .supply) (listed (c .declines))) supplied
+    (c .partition) (is .there) (c .window) window (declines-nowhere c nowhere))
+
+-- no node, partition or host, is charged more than its served number in a served period, whole or not
+pub never-charged-more : NeverChargedMore
+unfolding servedC servedT
+never-charged-more plan fit supply declines i b n l part = never-over-yet (dispatcher-keeps plan fit supply declines .books i l) b n part
+
+-- and no partition is granted more than that
+pub never-served-more : NeverServedMore
+never-served-more c fit fresh is b n part inside =
+    rw (received-charged c fit fresh is (listed (c .supplies)) (λ k l. refl) (b * servedOf (c .plan) (c .partition) .t) n inside)
+    (never-charged-more (c .plan) fit (listed (c .supplies)) (listed (c .declines)) (c .partition) b n (is .there) part)
+
+-- the counts that are reached tell what was charged
+pub counts-tell : CountsTell
+unfolding servedC servedT
+counts-tell c fit fresh i l b a below last =
+    rw (run-left c fit fresh (listed (c .supplies)) (λ k m. refl), last)
+    (balance-after (c .plan) fit (listed (c .supplies)) (listed (c .declines)) i b a l below)
+
+-- a run that is done has a plan that fits, and so a fresh start that is done
+start-done : (plan : Plan) (supplies declines : List ℕ) (room : ℕ) → ran plan (started plan .state) supplies declines room .outcome ≡ done → started plan .outcome ≡ done
+unfolding ran ready started
+start-done plan supplies declines room e =
+    rw (left-true (isFit plan) _ (done-tests plan (started plan .state) (length supplies) (length declines) room e .0))
+
+-- one run from a fresh start is one of runs and steps
+pub one-run-too : OneRunToo
+one-run-too c run =
+    record {
+      state = ran (c .plan) (started (c .plan) .state) (c .supplies) (c .declines) (length (run .out)) .state;
+      answers = take (length (c .supplies) * c .plan .cores) after;
+      beyond = drop (length (c .supplies) * c .plan .cores) after;
+      reached =
+          by-run (at-start (start-done (c .plan) (c .supplies) (c .declines) (length (run .out)) (run .ends))) (c .supplies) (c .declines) (run .out) (run .ends);
+      holds = run .holds ∙ sym (take-append-drop (length (c .supplies) * c .plan .cores) after);
+    }
+  where
+    after : List ℕ
+    after = outAfter (c .plan) (started (c .plan) .state) (c .supplies) (c .declines) (run .out)

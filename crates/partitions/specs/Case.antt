@@ -1,0 +1,97 @@
+-- The case that demand 3 speaks of, and its notions, each a sentence's part over that case. Only whether the bytes are accepted is not said here. Assumes
+-- nothing.
+use Prim.Native.Nat.{ℕ, _+_, _*_, _/_, _≤_, _<_}
+use mathlib.Core.Bool.{false}
+use mathlib.Core.List.{List, _++_}
+use mathlib.Core.Path.{_≡_}
+use lib.Dec.{eqb}
+use lib.ListN.{length, getD}
+use Rattle.meaning.specs.Allocation.{Allocation, ones}
+use Rattle.meaning.specs.Types.{Starts, Honours}
+use Rattle.meaning.specs.declared.Kind.the-variants.{Aligned}
+use Rattle.plans.specs.Plan.{There, supplyAt, kindOf, wantedOf, servedOf, wantedAs, isHost}
+use Rattle.plans.specs.Cores.{coreOf}
+use Rattle.plans.specs.declared.Plan.{Plan}
+use Rattle.dispatch.specs.View.{bitOf}
+use Rattle.dispatch.specs.Slot.{unsupplied}
+use Rattle.dispatch.specs.Run.{done, Standing, started, ran, outAfter}
+use Rattle.dispatch.specs.Reached.{Reached}
+use Rattle.unending.specs.Unending.{charged}
+
+-- A plan, as bytes and as a value; an unending supply, of which `supply n` is the byte of supplied cores of slot n; a run, by its supply bytes, its decline
+-- words and the buffer that has its answers; a partition, by its node's number; and the slot at which a window of it starts.
+pub record Case : Type 0 where
+  pub bytes : List ℕ
+  pub plan : Plan
+  pub supply : ℕ → ℕ
+  pub supplies : List ℕ
+  pub declines : List ℕ
+  pub buffer : List ℕ
+  pub partition : ℕ
+  pub window : ℕ
+
+-- the slots in which core s is supplied
+unfoldable pub slotsOf : (ℕ → ℕ) → ℕ → Allocation
+slotsOf supply s n = bitOf (supply n) s
+
+-- "any unending supply that gives each core its stated slots in every aligned period"
+abbrev pub KeepsTypes : Case → Type 0
+KeepsTypes c = (s : ℕ) → s < c .plan .cores → Honours Aligned (supplyAt (c .plan) s) (slotsOf (c .supply) s)
+
+-- "In any run over its first part": the run's supply bytes are the first ones of the unending supply
+abbrev pub OverFirstPart : Case → Type 0
+OverFirstPart c = (k : ℕ) → k < length (c .supplies) → c .supply k ≡ getD (c .supplies) k 0
+
+-- "started fresh": the buffer begins with the answers of runs and steps, one after the other, from a fresh start and over these inputs
+pub record FromFresh (c : Case) : Type 0 where
+  pub state : Standing
+  pub answers : List ℕ
+  pub beyond : List ℕ
+  pub reached : Reached (c .plan) state (c .supplies) (c .declines) answers
+  pub holds : c .buffer ≡ answers ++ beyond
+
+-- the same by one run into a buffer `out`
+pub record ByOneRun (c : Case) : Type 0 where
+  pub out : List ℕ
+  pub ends : ran (c .plan) (started (c .plan) .state) (c .supplies) (c .declines) (length out) .outcome ≡ done
+  pub holds : c .buffer ≡ outAfter (c .plan) (started (c .plan) .state) (c .supplies) (c .declines) out
+
+-- "a partition": a node of the plan that is a leaf
+pub record IsPartition (c : Case) : Type 0 where
+  pub there : There (c .plan) (c .partition)
+  pub leaf : isHost (c .plan) (c .partition) ≡ false
+
+-- how many slots the partition asked for, and in how many
+abbrev pub asked : Case → ℕ
+asked c = wantedOf (c .plan) (c .partition) .c
+
+abbrev pub period : Case → ℕ
+period c = wantedOf (c .plan) (c .partition) .t
+
+-- "every one of its windows": an aligned leaf's windows start at multiples of T', a sliding leaf's anywhere
+abbrev pub ItsWindow : Case → Type 0
+ItsWindow c = Starts (wantedAs (kindOf (c .plan) (c .partition))) (period c) (c .window)
+
+-- "that lies inside the run"
+abbrev pub InsideRun : Case → Type 0
+InsideRun c = c .window + period c ≤ length (c .supplies)
+
+-- "provided it declines in no slot of its served periods that touch that window": no slot x of the run that lies in the same served period as some slot
+-- y of the window has the partition's decline bit set
+abbrev pub DeclinesNowhere : Case → Type 0
+DeclinesNowhere c =
+    let T : ℕ = servedOf (c .plan) (c .partition) .t in
+    (x y : ℕ) → x < length (c .declines) → c .window ≤ y → y < c .window + period c → x / T ≡ y / T →
+    bitOf (getD (c .declines) x 0) (c .partition) ≡ false
+
+-- the slots that went to partition i, by a buffer: the answer of its own core is i
+unfoldable pub receives : Plan → List ℕ → ℕ → Allocation
+receives plan buffer i n = eqb (getD buffer (n * plan .cores + coreOf plan i) unsupplied) i
+
+-- "a partition receives": how many slots went to it in the window
+abbrev pub received : Case → ℕ
+received c = ones (receives (c .plan) (c .buffer) (c .partition)) (c .window) (period c)
+
+-- the slots in which node i, partition or host, is charged in the run
+abbrev pub charges : Case → ℕ → Allocation
+charges c i = charged (c .plan) (λ n. getD (c .supplies) n 0) (λ n. getD (c .declines) n 0) i

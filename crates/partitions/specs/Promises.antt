@@ -1,0 +1,57 @@
+-- Demand 3 for a plan value that fits. Why each holds is in proofs/. Assumes nothing.
+use Prim.Native.Nat.{ℕ, suc, _+_, _*_, _≤_, _<_}
+use mathlib.Core.Path.{_≡_}
+use lib.ListN.{length, getD}
+use Rattle.meaning.specs.Allocation.{ones}
+use Rattle.plans.specs.Plan.{There, servedOf}
+use Rattle.plans.specs.declared.Plan.{Plan}
+use Rattle.rules.specs.Fit.{Fit}
+use Rattle.unending.specs.Unending.{charged}
+use Rattle.partitions.specs.Case.{
+  Case,
+  KeepsTypes,
+  OverFirstPart,
+  FromFresh,
+  ByOneRun,
+  IsPartition,
+  ItsWindow,
+  InsideRun,
+  DeclinesNowhere,
+  asked,
+  receives,
+  received,
+  charges,
+}
+
+-- a partition receives what it asked for in each of its windows inside the run
+abbrev pub Served : Type 0
+Served =
+    (c : Case) → Fit (c .plan) → KeepsTypes c → OverFirstPart c → FromFresh c → IsPartition c → ItsWindow c → InsideRun c → DeclinesNowhere c →
+    asked c ≤ received c
+
+-- no partition is granted more than its served number in a served period, or in so much of one as lies inside the run, under any supply
+abbrev pub NeverServedMore : Type 0
+NeverServedMore =
+    (c : Case) → Fit (c .plan) → FromFresh c → IsPartition c →
+    let T : ℕ = servedOf (c .plan) (c .partition) .t in
+    (b n : ℕ) → n ≤ T → b * T + n ≤ length (c .supplies) →
+    ones (receives (c .plan) (c .buffer) (c .partition)) (b * T) n ≤ servedOf (c .plan) (c .partition) .c
+
+-- and no node, partition or host, is charged more than that in a served period or in so much of one, under any supply and whoever declines
+abbrev pub NeverChargedMore : Type 0
+NeverChargedMore =
+    (plan : Plan) → Fit plan → (supply declines : ℕ → ℕ) (i b n : ℕ) → There plan i → n ≤ servedOf plan i .t →
+    ones (charged plan supply declines i) (b * servedOf plan i .t) n ≤ servedOf plan i .c
+
+-- What a node is charged is told by the state that is reached: after slot b·T + a of the run, the run's last, its left and what it was charged since slot b·T
+-- are together its served C.
+abbrev pub CountsTell : Type 0
+CountsTell =
+    (c : Case) → Fit (c .plan) → (fresh : FromFresh c) → (i : ℕ) → There (c .plan) i →
+    let T : ℕ = servedOf (c .plan) i .t in
+    (b a : ℕ) → a < T → length (c .supplies) ≡ suc (b * T + a) →
+    getD (fresh .state .left) i 0 + ones (charges c i) (b * T) (suc a) ≡ servedOf (c .plan) i .c
+
+-- one run from a fresh start is a case of runs and steps one after the other
+abbrev pub OneRunToo : Type 0
+OneRunToo = (c : Case) → ByOneRun c → FromFresh c

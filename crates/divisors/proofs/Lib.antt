@@ -1,1 +1,2 @@
 pub mod Euclid
+pub mod Reach

@@ -8,10 +8,10 @@ use lib.Dec.{ltb}
 use lib.ListN.{length, set, take, drop}
 use borrow.Author.Tests.{eq-eqb, ne-eqb, le-leb, lt-leb, ltb-true}
 use Rattle.ticks.specs.Times as times
-use Rattle.ticks.specs.Times.{begins, latest, timed, perMinute, SlotSays}
+use Rattle.ticks.specs.Times.{begins, timed, perMinute, SlotSays}
 use Rattle.ticks.specs.declared.Tick.{Tick}
 use Rattle.ticks.specs.declared.Answer.{Answer as Time}
-use Rattle.ticks.proofs.Kept.{closed-form}
+use Rattle.ticks.proofs.Kept.{closed-form-said}
 use Rattle.meaning.specs.declared.SlotType.{SlotType}
 use Rattle.meaning.specs.declared.Kind.{Kind}
 use Rattle.types.specs.Decision.{saidOf, decided, outAfter}
@@ -60,7 +60,7 @@ module _ (tick : Tick) (a : Time) (lent after : List ℕ) (x : ℕ) (told : (x, 
   -- the slot of a time, by the closed form
   pub slot-told : (t : ℕ) → SlotSays tick t (times.said a) → (x, after) ≡ slotting tick t lent
   unfolding slotting
-  slot-told t says = told ∙ ap (λ s. telling s lent) (says (latest tick t) (closed-form tick t))
+  slot-told t says = told ∙ ap (λ s. telling s lent) (closed-form-said tick t (times.said a) .0 says)
 
 -- a pair of types, with an answer of the wrong length, of an unknown kind, and of kinds 0 and 1
 module _ (gives : ℕ) (giver : SlotType) (wants : ℕ) (wanted : SlotType) (out lent : List ℕ) where

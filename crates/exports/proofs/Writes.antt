@@ -62,7 +62,6 @@ refused-pair gives giver wants wanted out lent =
         cond a (cond b (cond c (by .0, writing giver wanted out d, by .1) (refusal 5 1, out, lent)) (refusal 5 0, out, lent)) (misfit, out, lent) in
         (w .0 ≡ 0 → ⊥) → (w .1 ≡ out) × (w .2 ≡ lent)
     go true true true (pairs.holds m) h = absurd (h refl)
-    go true true true (pairs.short m) h = absurd (h refl)
     go true true true (pairs.fails s o n) h = absurd (h refl)
     go true true true (pairs.refused r p) h = (refl, refl)
     go true true false d h = (refl, refl)

@@ -55,15 +55,13 @@ minuting tick n = telling (perMinute (timed tick n (begins tick n)))
 unfoldable pub slotting : Tick → ℕ → List ℕ → ℕ × List ℕ
 slotting tick t = telling (timed tick t (latest tick t))
 
--- Pairs of types. A pair that holds: 1, the least ones, 0, 0; one that fails: 0, the window's start, the ones there, the stretch's length. (A decision
--- with an allocation never says just that a pair falls short.)
+-- Pairs of types. A pair that holds: 1, the least ones, 0, 0; one that fails: 0, the window's start, the ones there, the stretch's length.
 abbrev pub placeOf : Place → ℕ
 placeOf none = placeless
 placeOf (at k) = k
 
 abbrev pub decidingBy : pairs.Said → List ℕ → ℕ × List ℕ
 decidingBy (pairs.holds m) lent = (0, 1 ∷ m ∷ 0 ∷ 0 ∷ [])
-decidingBy (pairs.short m) lent = (0, lent)
 decidingBy (pairs.fails s o n) lent = (0, 0 ∷ s ∷ o ∷ n ∷ [])
 decidingBy (pairs.refused r p) lent = (refusal r (placeOf p), lent)
 

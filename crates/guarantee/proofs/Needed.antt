@@ -15,7 +15,7 @@ use Rattle.meaning.specs.Least.{lowest}
 use Rattle.meaning.specs.Types.{wellFormed}
 use Rattle.meaning.specs.Written.{written}
 use Rattle.meaning.proofs.WellFormed.{bounds}
-use Rattle.types.specs.Decision.{judged}
+use Rattle.types.specs.Verdict.{judged}
 use Rattle.types.specs.Least.{step, turns, onesFrom, onesAt, leastOnes}
 use Rattle.answers.specs.Answers.{Said, accepted, said, accepts, first, test, each}
 use Rattle.plans.specs.Plan.{nodeAt, supplyAt, hosting, isHost, wantedAs, ownType, same, isChild}

@@ -10,8 +10,8 @@ use native.Mathlib.Omega.{arith}
 use Rattle.meaning.specs.declared.SlotType.{SlotType}
 use Rattle.meaning.specs.declared.Kind.{Kind}
 use Rattle.meaning.specs.declared.Kind.the-variants.{Aligned}
-use Rattle.types.specs.Decision.{holds, short, judged}
-use Rattle.types.specs.Decision as decision
+use Rattle.types.specs.Verdict.{holds, short, judged}
+use Rattle.types.specs.Verdict as verdict
 use Rattle.types.specs.declared.Verdict.{Verdict}
 use Rattle.types.specs.declared.Verdict.the-variants.{Holds, Short, Refused}
 use Rattle.plans.proofs.Kept.{sound-kept}
@@ -65,9 +65,9 @@ served-read plan i n e = ap (λ m. m .served) e
 
 -- The least ones of node i, where v is the verdict on its two types.
 module _ (plan : Plan) (i : ℕ) (keeps : sound plan ≡ true) (l : i < plan .size) (n : Node) (here : n ≡ nodeAt plan i)
-    (wants : Kind) (kind : wants ≡ wantedAs (n .kind)) (v : Verdict) (e : decision.said v ≡ judged Aligned (n .served) wants (n .wanted)) where
+    (wants : Kind) (kind : wants ≡ wantedAs (n .kind)) (v : Verdict) (e : verdict.said v ≡ judged Aligned (n .served) wants (n .wanted)) where
   -- the types of a sound plan's node are well formed, so the verdict has its count
-  counted : decision.said v ≡ cond (leb (wantedOf plan i .c) (leastOf plan i)) (holds (leastOf plan i)) (short (leastOf plan i))
+  counted : verdict.said v ≡ cond (leb (wantedOf plan i .c) (leastOf plan i)) (holds (leastOf plan i)) (short (leastOf plan i))
   unfolding judged leastOf
   counted = rw (sound-kept plan keeps .served i l, sound-kept plan keeps .wanted i l) at (rw (kind, here) at e)
 
@@ -91,7 +91,7 @@ module _ (plan : Plan) (i : ℕ) (keeps : sound plan ≡ true) (l : i < plan .si
   pub least-refused : (r p : ℕ) → v ≡ Refused r p → 0 ≡ leastOf plan i
   least-refused r p h = go (leb (wantedOf plan i .c) (leastOf plan i)) (rw h at counted)
     where
-      go : (b : Bool) → decision.said (Refused r p) ≡ cond b (holds (leastOf plan i)) (short (leastOf plan i)) → 0 ≡ leastOf plan i
+      go : (b : Bool) → verdict.said (Refused r p) ≡ cond b (holds (leastOf plan i)) (short (leastOf plan i)) → 0 ≡ leastOf plan i
       go true k = cc
       go false k = cc
 

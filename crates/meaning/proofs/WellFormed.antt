@@ -1,6 +1,6 @@
 -- Well formed as a test and as bounds: each way to a no and the one to a yes, and back. Assumes nothing.
-use Prim.Native.Nat.{ℕ, _≤_, _<_}
-use mathlib.Core.Bool.{Bool, true, false, _&&_, and-eq-true-iff}
+use Prim.Native.Nat.{_≤_, _<_}
+use mathlib.Core.Bool.{true, false, _&&_, and-eq-true-iff}
 use mathlib.Core.Path.{_≡_}
 use lib.Dec.{leb}
 use borrow.Author.Tests.{le-leb, lt-leb, leb-true}
@@ -35,7 +35,3 @@ bounds a e =
       most = leb-true (a .t) 4096 (rest .0);
       fits = leb-true (a .c) (a .t) (rest .1);
     }
-
-pub well-formed : (a : SlotType) → Bounds a → wellFormed a ≡ true
-unfolding wellFormed
-well-formed a b = rw (le-leb 1 (a .t) (b .some), le-leb (a .t) 4096 (b .most), le-leb (a .c) (a .t) (b .fits))

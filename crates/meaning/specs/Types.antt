@@ -1,6 +1,6 @@
 -- What a type is and what it means: document 01, "Types and what they mean". Assumes nothing.
 use Prim.Native.Nat.{ℕ, _*_, _≤_}
-use mathlib.Core.Bool.{Bool, true, false, _&&_}
+use mathlib.Core.Bool.{Bool, _&&_}
 use mathlib.Core.Path.{_≡_}
 use lib.Dec.{leb}
 use Rattle.meaning.specs.Allocation.{Allocation, ones}

@@ -2,7 +2,7 @@
 use Prim.Native.Nat.{ℕ, _+_, _-_, _*_, _/_, max}
 use mathlib.Core.Bool.{Bool, not, _&&_}
 use lib.Dec.{leb, ltb}
-use Rattle.meaning.specs.Allocation.{Allocation, ones}
+use Rattle.meaning.specs.Allocation.{Allocation}
 
 -- slot n lies inside the window of L slots that starts at s
 abbrev pub inside : ℕ → ℕ → ℕ → Bool

@@ -1,17 +1,15 @@
 -- Where an aligned giver owes least, over the starts j * step: at the last multiple of d up to C or at the next one, where d is a common divisor of
 -- T and step that some start has as its offset. Assumes nothing.
-use Prim.Native.Nat.{ℕ, suc, _+_, _-_, _*_, _/_, _%_, _≤_, _<_, _∣_, min}
+use Prim.Native.Nat.{ℕ, suc, _+_, _*_, _/_, _%_, _≤_, _<_, _∣_, min}
 use mathlib.Core.Path.{_≡_, ap, sym, _∙_}
 use mathlib.Core.Logic.{_⊎_, inl, inr}
 use native.Mathlib.Nat.{
   div-mul-cancel,
-  div-mul-le-self,
   dvd-mod-iff,
   dvd-mul-left-of-dvd,
   le-antisymm,
   le-min,
   le-trans,
-  lt-div-mul-add,
   lt-of-mul-lt-mul-right,
   min-le-left,
   min-le-right,
@@ -80,20 +78,3 @@ least-between C T L step d times blocks a some fits left right meets below above
   where
     reached : (k : ℕ) → lowest (at C T step L) L T ≤ owed C T (k * d) L
     reached k = rw (multiple-occurs C T L step d times blocks k some meets) at (lowest-le (at C T step L) L T (k * times % T) (mod-lt (k * times) some))
-
--- over the first T starts an aligned giver owes least at the last multiple of d up to C and below T, or at the next one
-pub least-two-at
-    : (C T L step d times blocks : ℕ) → 0 < T → C ≤ T → 0 < d → d ∣ T → d ∣ step → times * step ≡ d + blocks * T
-    → lowest (at C T step L) L T ≡ min (owed C T (min C (T - 1) / d * d) L) (owed C T (min C (T - 1) / d * d + d) L)
-least-two-at C T L step d times blocks some fits positive left right meets =
-    let m : ℕ = min C (T - 1) in
-    least-between C T L step d times blocks (m / d) some fits left right meets
-    (omega (arith, div-mul-le-self m d))
-    (omega (arith, lt-div-mul-add {a = m} positive))
-
--- the same with the starts written out
-pub least-two
-    : (C T L step d times blocks : ℕ) → 0 < T → C ≤ T → 0 < step → 0 < d → d ∣ T → d ∣ step → times * step ≡ d + blocks * T
-    → lowest (λ j. owed C T (j * step) L) L T ≡ min (owed C T (min C (T - 1) / d * d) L) (owed C T (min C (T - 1) / d * d + d) L)
-unfolding at
-least-two C T L step d times blocks some fits forth positive left right meets = least-two-at C T L step d times blocks some fits positive left right meets

@@ -4,7 +4,7 @@ use mathlib.Core.Bool.{Bool}
 use mathlib.Core.Path.{_≡_}
 use Rattle.meaning.specs.declared.Kind.{Kind}
 use Rattle.meaning.specs.declared.Kind.the-variants.{Aligned}
-use Rattle.types.specs.Decision.{said, judged}
+use Rattle.types.specs.Verdict.{said, judged}
 use Rattle.types.specs.declared.Verdict.{Verdict}
 use Rattle.answers.specs.Answers.{test}
 use Rattle.answers.specs.declared.Answer.{Answer}

@@ -5,7 +5,7 @@ use mathlib.Core.Path.{_≡_, refl, ap, sym, _∙_}
 use lib.Dec.{leb, eqb}
 use native.Mathlib.Omega.{arith}
 use Rattle.meaning.specs.declared.Kind.the-variants.{Aligned}
-use Rattle.types.specs.Decision.{Said, holds, short, fails, refused, judged}
+use Rattle.types.specs.Verdict.{Said, holds, short, refused, judged}
 use Rattle.types.proofs.Kept.{holding as types-holding, exact as types-exact}
 use Rattle.answers.specs.Answers.{test}
 use Rattle.answers.specs.declared.Answer.{Answer}
@@ -43,7 +43,6 @@ holding-holds : (s : Said) → holding s ≡ true → (m : ℕ) × (s ≡ holds 
 unfolding holding
 holding-holds (holds m) e = (m, refl)
 holding-holds (short m) e = absurd (false≢true e)
-holding-holds (fails s o n) e = absurd (false≢true e)
 holding-holds (refused r p) e = absurd (false≢true e)
 
 module _ (plan : Plan) where

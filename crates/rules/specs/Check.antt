@@ -5,7 +5,7 @@ use mathlib.Core.Bool.{Bool, true, false, not, cond, _&&_, _||_}
 use lib.Dec.{leb, eqb}
 use Rattle.meaning.specs.declared.Kind.{Kind}
 use Rattle.meaning.specs.declared.Kind.the-variants.{Aligned}
-use Rattle.types.specs.Decision.{Said, holds, short, fails, refused, judged}
+use Rattle.types.specs.Verdict.{Said, holds, short, refused, judged}
 use Rattle.answers.specs.Answers.{accepts, first, test, each, nowhere}
 use Rattle.answers.specs.declared.Answer.{Answer}
 use Rattle.answers.specs.declared.Answer.the-variants.{Accepted, Refused}
@@ -19,7 +19,6 @@ use Rattle.rules.specs.Fit.{loadTo, side}
 unfoldable pub holding : Said → Bool
 holding (holds m) = true
 holding (short m) = false
-holding (fails s o n) = false
 holding (refused r p) = false
 
 -- rule 11 at node i

@@ -1,6 +1,6 @@
 // Rule 11 over all nodes: a node's served type, aligned, stands in for its wanted type.
 ghost use mathlib.Core.Path.{_≡_};
-ghost use Rattle.types.specs.Decision.{said};
+ghost use Rattle.types.specs.Verdict.{said};
 ghost use Rattle.answers.specs.Answers.{each};
 ghost use Rattle.rules.specs.Check.{holding, elevenAt};
 use answers::Answer;

@@ -81,7 +81,7 @@ fit tick e =
     record { p = in-range (tick .p) (both .0); q = in-range (tick .q) (both .1) }
 
 -- an answer is no number, as the `else` of a `let Answer::Number(_) = a` finds it
-abbrev Refusal : Answer → Type 0
+abbrev pub Refusal : Answer → Type 0
 Refusal a = OneOf (1 ∷ 2 ∷ []) (tagOf the-type a)
 
 -- a refusal says no number: one that did would say anything

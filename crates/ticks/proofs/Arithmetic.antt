@@ -9,16 +9,16 @@ use native.Mathlib.Omega.{arith}
 pub add-one-mul : (n m : ℕ) → (n + 1) * m ≡ n * m + m
 add-one-mul n m = rw add-one (suc-mul n m)
 
--- slot n begins at or before t exactly when n is at most the closed form
-pub at-most-closed : (P Q t n : ℕ) → 0 < P → 0 < Q → n * P / Q ≤ t → n ≤ ((t + 1) * Q - 1) / P
-at-most-closed P Q t n p q h =
+-- slot n begins at or before t exactly when n is at most the closed form, x / P
+pub at-most-closed : (P Q t x n : ℕ) → 0 < P → 0 < Q → n * P / Q ≤ t → x ≡ (t + 1) * Q - 1 → n ≤ x / P
+at-most-closed P Q t x n p q h e =
     let under : n * P < (t + 1) * Q = div-lt-iff-lt-mul q .0 (omega arith) in
     le-div-iff-mul-le p .1 (omega arith)
 
-pub closed-begins : (P Q t n : ℕ) → 0 < P → 0 < Q → n ≤ ((t + 1) * Q - 1) / P → n * P / Q ≤ t
-closed-begins P Q t n p q h =
+pub closed-begins : (P Q t x n : ℕ) → 0 < P → 0 < Q → n ≤ x / P → x ≡ (t + 1) * Q - 1 → n * P / Q ≤ t
+closed-begins P Q t x n p q h e =
     let room : 0 < (t + 1) * Q = omega (arith, add-one-mul t Q) in
-    let under : n * P ≤ (t + 1) * Q - 1 = le-div-iff-mul-le p .0 h in
+    let under : n * P ≤ x = le-div-iff-mul-le p .0 h in
     let below : n * P / Q < t + 1 = div-lt-iff-lt-mul q .1 (omega arith) in
     omega arith
 

@@ -1,10 +1,21 @@
 -- What document 01, "Slot times", promises of the definitions in Times. Why each holds is in proofs/Kept.antt. Assumes nothing.
-use Prim.Native.Nat.{ℕ, _+_, _≤_, _<_}
-use mathlib.Core.Bool.{true}
+use Prim.Native.Nat.{ℕ, _+_, _^_, _≤_, _<_}
+use mathlib.Core.Bool.{true, false}
+use mathlib.Core.Logic.{_↔_, _⊎_}
 use mathlib.Core.Path.{_≡_}
-use Rattle.ticks.specs.Times.{isFit, begins, Latest, latest, said, SlotSays}
+use Rattle.ticks.specs.Times.{isFit, begins, Latest, latest, Said, number, refused, said, timed, SlotSays}
 use Rattle.ticks.specs.declared.Tick.{Tick}
 use Rattle.ticks.specs.declared.Answer.{Answer}
+
+-- 01, refusals 16 and 15: "tick .. not fit" is given "before 15", which is given where "a slot, a time or an answer lies beyond 2^40", and otherwise
+-- the answer v to what is asked about x is given
+pub record Given (tick : Tick) (x v : ℕ) : Type 0 where
+  pub unfit : isFit tick ≡ false → timed tick x v ≡ refused 16
+  pub beyond : isFit tick ≡ true → (2 ^ 40 < x) ⊎ (2 ^ 40 < v) → timed tick x v ≡ refused 15
+  pub within : isFit tick ≡ true → x ≤ 2 ^ 40 → v ≤ 2 ^ 40 → timed tick x v ≡ number v
+
+abbrev pub GivenExactly : Type 0
+GivenExactly = (tick : Tick) (x v : ℕ) → Given tick x v
 
 -- 01: "the greatest n that begins at or before t: floor(((t + 1)·Q − 1)/P)"
 abbrev pub ClosedForm : Type 0
@@ -30,6 +41,10 @@ NeverFalls = (tick : Tick) (n m : ℕ) → isFit tick ≡ true → n ≤ m → b
 abbrev pub SaidOnce : Type 0
 SaidOnce = (a b : Answer) → said a ≡ said b → a ≡ b
 
--- and so does what `slot` is held to
+-- what is said of the slot of a time, by the sentence, is what the closed form says
+abbrev pub ClosedFormSaid : Type 0
+ClosedFormSaid = (tick : Tick) (t : ℕ) (a : Said) → SlotSays tick t a ↔ (a ≡ timed tick t (latest tick t))
+
+-- so that what `slot` is held to allows one answer too
 abbrev pub OneAnswer : Type 0
 OneAnswer = (tick : Tick) (t : ℕ) (a b : Answer) → SlotSays tick t (said a) → SlotSays tick t (said b) → a ≡ b

@@ -1,6 +1,6 @@
 -- Slot times: document 01, "Slot times", and refusals 15 and 16 of its table. Assumes nothing.
 use Prim.Native.Nat.{ℕ, _+_, _-_, _*_, _/_, _^_, _≤_}
-use mathlib.Core.Bool.{Bool, true, cond, _&&_}
+use mathlib.Core.Bool.{Bool, true, false, cond, _&&_}
 use mathlib.Core.Path.{_≡_}
 use lib.Dec.{leb}
 use Rattle.ticks.specs.declared.Tick.{Tick}
@@ -50,6 +50,7 @@ abbrev pub perMinute : Said → Said
 perMinute (number v) = number (v / 60_000_000)
 perMinute (refused r) = refused r
 
--- What the slot of a time t may be said to be: the greatest n that begins at or before t. A tick out of its range has no such n, and is refused.
-abbrev pub SlotSays : Tick → ℕ → Said → Type 0
-SlotSays tick t a = (n : ℕ) → (isFit tick ≡ true → Latest tick t n) → a ≡ timed tick t n
+-- What is said of the slot of a time t: for a fit tick there is a greatest slot that begins at or before t, and it is that; else it is refused by 16
+pub record SlotSays (tick : Tick) (t : ℕ) (a : Said) : Type 0 where
+  pub found : isFit tick ≡ true → (n : ℕ) × (Latest tick t n × (a ≡ timed tick t n))
+  pub unfit : isFit tick ≡ false → a ≡ refused 16

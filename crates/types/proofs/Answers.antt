@@ -12,23 +12,11 @@ use Rattle.meaning.specs.declared.SlotType.{SlotType}
 use Rattle.meaning.specs.declared.Kind.{Kind}
 use Rattle.answers.specs.Answers.{at, placed}
 use Rattle.types.specs.Least.{onesFrom, leastOnes, firstShort}
-use Rattle.types.specs.Decision.{
-  Said,
-  holds,
-  short,
-  fails,
-  refused,
-  said,
-  judged,
-  stretch,
-  failing,
-  decided,
-  bytes,
-  writing,
-  outAfter,
-}
+use Rattle.types.specs.Verdict as verdict
+use Rattle.types.specs.Verdict.{said, judged}
+use Rattle.types.specs.Decision.{Said, holds, fails, refused, stretch, failing, decided, bytes, writing, outAfter}
 use Rattle.types.specs.declared.Verdict.{Verdict}
-use Rattle.types.specs.declared.Verdict.the-variants as verdict
+use Rattle.types.specs.declared.Verdict.the-variants as verdicts
 
 -- the failing window that starts at s, with the ends of its stretch
 module _ (giver wanted : SlotType) (s from to : ℕ) (first : from ≡ stretchFrom (giver .t) s) (last : to ≡ stretchTo (giver .t) s (wanted .t))
@@ -64,30 +52,30 @@ formed a r e h = sym e ∙ not-false r h
 -- a pair's verdict, where r and q tell whether the types are well formed and m is the least ones
 module _ (gives : Kind) (giver : SlotType) (wants : Kind) (wanted : SlotType) (r : Bool) (e : r ≡ wellFormed giver) where
   -- a malformed giver is refused at place 0
-  pub giver-unfit : r ≡ false → refused 4 (placed 255 0) ≡ judged gives giver wants wanted
+  pub giver-unfit : r ≡ false → verdict.refused 4 (placed 255 0) ≡ judged gives giver wants wanted
   unfolding judged placed
   giver-unfit h = rw (sym e ∙ h)
 
   module _ (h : r ≡ true) (q : Bool) (k : q ≡ wellFormed wanted) where
     -- then a malformed wanted type at place 1
-    pub wanted-unfit : q ≡ false → refused 4 (placed 255 1) ≡ judged gives giver wants wanted
+    pub wanted-unfit : q ≡ false → verdict.refused 4 (placed 255 1) ≡ judged gives giver wants wanted
     unfolding judged placed
     wanted-unfit l = rw (sym e ∙ h, sym k ∙ l)
 
     module _ (l : q ≡ true) (m : ℕ) (least : m ≡ leastOnes gives giver wants wanted) where
       -- then the pair holds where the least is enough
-      pub enough : wanted .c ≤ m → holds m ≡ judged gives giver wants wanted
+      pub enough : wanted .c ≤ m → verdict.holds m ≡ judged gives giver wants wanted
       unfolding judged
       enough n = rw (sym e ∙ h, sym k ∙ l, ← least, le-leb (wanted .c) m n)
 
       -- and else falls short
-      pub too-few : m < wanted .c → short m ≡ judged gives giver wants wanted
+      pub too-few : m < wanted .c → verdict.short m ≡ judged gives giver wants wanted
       unfolding judged
       too-few n = rw (sym e ∙ h, sym k ∙ l, ← least, lt-leb (wanted .c) m n)
 
 -- what falls short has passed both tests
 both-passed
-    : (g w b : Bool) (l m : ℕ) → short m ≡ cond g (cond w (cond b (holds l) (short l)) (refused 4 (at 1))) (refused 4 (at 0))
+    : (g w b : Bool) (l m : ℕ) → verdict.short m ≡ cond g (cond w (cond b (verdict.holds l) (verdict.short l)) (verdict.refused 4 (at 1))) (verdict.refused 4 (at 0))
     → (g ≡ true) × (w ≡ true)
 both-passed true true b l m e = (refl, refl)
 both-passed true false b l m e = (refl, cc)
@@ -96,7 +84,7 @@ both-passed false w b l m e = (cc, cc)
 -- a pair's decision, from its verdict v
 module _ (gives : Kind) (giver : SlotType) (wants : Kind) (wanted : SlotType) (v : Verdict) (e : said v ≡ judged gives giver wants wanted) where
   -- where it holds
-  module _ (m : ℕ) (h : v ≡ verdict.Holds m) where
+  module _ (m : ℕ) (h : v ≡ verdicts.Holds m) where
     -- the decision is the same
     pub holds-alike : (room : ℕ) → holds m ≡ decided gives giver wants wanted room
     unfolding decided
@@ -108,7 +96,7 @@ module _ (gives : Kind) (giver : SlotType) (wants : Kind) (wanted : SlotType) (v
     holds-kept out = rw (← (holds-alike (length out)))
 
   -- where it is refused
-  module _ (r p : ℕ) (h : v ≡ verdict.Refused r p) where
+  module _ (r p : ℕ) (h : v ≡ verdicts.Refused r p) where
     -- the decision is the same
     pub refused-alike : (room : ℕ) → refused r (placed 255 p) ≡ decided gives giver wants wanted room
     unfolding decided
@@ -120,7 +108,7 @@ module _ (gives : Kind) (giver : SlotType) (wants : Kind) (wanted : SlotType) (v
     refused-kept out = rw (← (refused-alike (length out)))
 
   -- where it falls short
-  module _ (m : ℕ) (h : v ≡ verdict.Short m) where
+  module _ (m : ℕ) (h : v ≡ verdicts.Short m) where
     short-passed : (wellFormed giver ≡ true) × (wellFormed wanted ≡ true)
     unfolding judged
     short-passed =

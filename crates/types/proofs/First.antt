@@ -8,6 +8,7 @@ use borrow.Author.Tests.{lt-ltb, le-ltb}
 use Rattle.meaning.specs.Types.{wellFormed}
 use Rattle.meaning.specs.declared.SlotType.{SlotType}
 use Rattle.meaning.specs.declared.Kind.{Kind}
+use Rattle.types.specs.Bounds.{lastStart}
 use Rattle.types.specs.Least.{step, turns, onesFrom, onesAt, firstBelow, firstShort}
 use Rattle.types.proofs.Windows.{step-most}
 
@@ -61,7 +62,7 @@ first-start gives giver wants wanted n j far e first apart = rw (first, apart, e
 -- and is small
 pub start-small
     : (wants : Kind) (wanted : SlotType) (n j far : ℕ) → wellFormed wanted ≡ true → n ≤ 4096 → j ≤ n → far ≡ step wants wanted
-    → j * far ≤ 16777216
+    → j * far ≤ lastStart
 start-small wants wanted n j far w few within apart =
     let short : far ≤ 4096 = rw apart (step-most wants wanted w) in
     mul-le-mul (le-trans within few) short

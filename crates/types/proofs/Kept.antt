@@ -6,6 +6,7 @@ use mathlib.Core.Logic.{_↔_}
 use native.Mathlib.Nat.{le-trans}
 use native.Mathlib.Omega.{arith}
 use lib.Dec.{leb}
+use lib.ListN.{length}
 use borrow.Author.Tests.{le-leb, leb-true, leb-false}
 use Rattle.meaning.specs.Types.{wellFormed, StandsIn}
 use Rattle.meaning.specs.declared.SlotType.{SlotType}
@@ -13,8 +14,20 @@ use Rattle.meaning.specs.declared.Kind.{Kind}
 use Rattle.meaning.proofs.WellFormed.{bounds}
 use Rattle.answers.specs.Answers.{none, at}
 use Rattle.types.specs.Least.{onesFrom, leastOnes, firstShort}
-use Rattle.types.specs.Decision.{Said, holds, short, fails, refused, stretch, judged, failing, showing, decided}
-use Rattle.types.specs.Promises.{LeastOf, FirstFailing, Holding, FallingShort, Exact, Failing, HoldingAlike}
+use Rattle.types.specs.Verdict as verdict
+use Rattle.types.specs.Verdict.{judged}
+use Rattle.types.specs.Decision.{Said, holds, fails, refused, stretch, failing, showing, decided, writing, outAfter}
+use Rattle.types.specs.Promises.{
+  LeastOf,
+  FirstFailing,
+  Holding,
+  FallingShort,
+  Exact,
+  Failing,
+  HoldingAlike,
+  GiverThenWanted,
+  NothingWritten,
+}
 use Rattle.types.proofs.KeptLeast.{least-of, first-failing}
 
 -- from what cannot be, anything
@@ -35,12 +48,12 @@ failing-by giver wanted room s P shown no-room = go (leb (stretch giver wanted s
 module _ (gives : Kind) (giver : SlotType) (wants : Kind) (wanted : SlotType) where
   -- what is so of each answer that a pair can get is so of its answer
   judged-by
-      : (P : Said → Type 0) →
+      : (P : verdict.Said → Type 0) →
       let least = leastOnes gives giver wants wanted in
-      (wellFormed giver ≡ false → P (refused 4 (at 0))) →
-      (wellFormed wanted ≡ false → P (refused 4 (at 1))) →
-      (wellFormed giver ≡ true → wellFormed wanted ≡ true → leb (wanted .c) least ≡ true → P (holds least)) →
-      (wellFormed giver ≡ true → wellFormed wanted ≡ true → leb (wanted .c) least ≡ false → P (short least)) →
+      (wellFormed giver ≡ false → P (verdict.refused 4 (at 0))) →
+      (wellFormed wanted ≡ false → P (verdict.refused 4 (at 1))) →
+      (wellFormed giver ≡ true → wellFormed wanted ≡ true → leb (wanted .c) least ≡ true → P (verdict.holds least)) →
+      (wellFormed giver ≡ true → wellFormed wanted ≡ true → leb (wanted .c) least ≡ false → P (verdict.short least)) →
       P (judged gives giver wants wanted)
   unfolding judged
   judged-by P bad-giver bad-wanted enough too-few = go (wellFormed giver) (wellFormed wanted) (leb (wanted .c) least) refl refl refl
@@ -49,7 +62,7 @@ module _ (gives : Kind) (giver : SlotType) (wants : Kind) (wanted : SlotType) wh
       least = leastOnes gives giver wants wanted
 
       go : (a b t : Bool) → wellFormed giver ≡ a → wellFormed wanted ≡ b → leb (wanted .c) least ≡ t
-          → P (cond a (cond b (cond t (holds least) (short least)) (refused 4 (at 1))) (refused 4 (at 0)))
+          → P (cond a (cond b (cond t (verdict.holds least) (verdict.short least)) (verdict.refused 4 (at 1))) (verdict.refused 4 (at 0)))
       go false b t g w h = bad-giver g
       go true false t g w h = bad-wanted w
       go true true true g w h = enough g w h
@@ -69,26 +82,10 @@ module _ (gives : Kind) (giver : SlotType) (wants : Kind) (wanted : SlotType) wh
       let least = least-of gives wants wanted (bounds giver g) in
       le-leb _ _ (rw (least .just) at (stands (least .allocation) (least .honours) (least .start) (least .starts)))
 
-  -- the decision with an allocation holds, in any room, exactly where the one without does, and with the same count
-  pub decided-holds : (room m : ℕ) → (decided gives giver wants wanted room ≡ holds m) ↔ (judged gives giver wants wanted ≡ holds m)
-  unfolding decided
-  decided-holds room m =
-      judged-by
-      (λ x. (showing x (failing giver wanted room (firstShort gives giver wants wanted)) ≡ holds m) ↔ (x ≡ holds m))
-      (λ g. ((λ e. never (cc)), (λ e. never (cc))))
-      (λ w. ((λ e. never (cc)), (λ e. never (cc))))
-      (λ g w h. ((λ e. e), (λ e. e)))
-      (λ g w h. (
-        failing-by giver wanted room (firstShort gives giver wants wanted) (λ x. x ≡ holds m → short (leastOnes gives giver wants wanted) ≡ holds m)
-            (λ e. never (cc))
-            (λ e. never (cc)),
-        (λ e. never (cc)),
-      ))
-
 -- a pair that holds stands in, and its count is the least of any wanted window
 pub holding : Holding
 holding gives giver wants wanted m =
-    judged-by gives giver wants wanted (λ x. x ≡ holds m → StandsIn gives giver wants wanted × LeastOf gives giver wants wanted m)
+    judged-by gives giver wants wanted (λ x. x ≡ verdict.holds m → StandsIn gives giver wants wanted × LeastOf gives giver wants wanted m)
     (λ g e. never (cc))
     (λ w e. never (cc))
     (λ g w h e. (
@@ -100,7 +97,7 @@ holding gives giver wants wanted m =
 -- a pair that falls short does not stand in, and its count is the least of any wanted window
 pub falling-short : FallingShort
 falling-short gives giver wants wanted m =
-    judged-by gives giver wants wanted (λ x. x ≡ short m → (StandsIn gives giver wants wanted → ⊥) × LeastOf gives giver wants wanted m)
+    judged-by gives giver wants wanted (λ x. x ≡ verdict.short m → (StandsIn gives giver wants wanted → ⊥) × LeastOf gives giver wants wanted m)
     (λ g e. never (cc))
     (λ w e. never (cc))
     (λ g w h e. never (cc))
@@ -113,7 +110,7 @@ falling-short gives giver wants wanted m =
 pub exact : Exact
 exact gives giver wants wanted well-giver well-wanted =
     judged-by gives giver wants wanted
-    (λ x. (StandsIn gives giver wants wanted → (m : ℕ) × (x ≡ holds m)) × ((StandsIn gives giver wants wanted → ⊥) → (m : ℕ) × (x ≡ short m)))
+    (λ x. (StandsIn gives giver wants wanted → (m : ℕ) × (x ≡ verdict.holds m)) × ((StandsIn gives giver wants wanted → ⊥) → (m : ℕ) × (x ≡ verdict.short m)))
     (λ g. never (cc))
     (λ w. never (cc))
     (λ g w h. ((λ stands. (_, refl)), (λ not-so. absurd (not-so (holds-stands-in gives giver wants wanted g w h)))))
@@ -133,5 +130,35 @@ failing-kept gives giver wants wanted room s o n =
     (λ e. subst₂ (FirstFailing gives giver wants wanted) (cc) (cc) (first-failing gives wants wanted (bounds giver g) (leb-false _ _ h)))
     (λ e. never (cc)))
 
+-- the decision with an allocation holds, in any room, exactly where the one without does, and with the same count
 pub holding-alike : HoldingAlike
-holding-alike = decided-holds
+unfolding decided
+holding-alike gives giver wants wanted room m =
+    judged-by gives giver wants wanted
+    (λ x. (showing x (failing giver wanted room (firstShort gives giver wants wanted)) ≡ holds m) ↔ (x ≡ verdict.holds m))
+    (λ g. ((λ e. never (cc)), (λ e. never (cc))))
+    (λ w. ((λ e. never (cc)), (λ e. never (cc))))
+    (λ g w h. ((λ e. cc), (λ e. cc)))
+    (λ g w h. (
+      failing-by giver wanted room (firstShort gives giver wants wanted)
+      (λ x. x ≡ holds m → verdict.short (leastOnes gives giver wants wanted) ≡ verdict.holds m)
+      (λ e. never (cc))
+      (λ e. never (cc)),
+      (λ e. never (cc)),
+    ))
+
+-- a malformed giver is refused, and then a malformed wanted type
+pub giver-then-wanted : GiverThenWanted
+unfolding judged decided
+giver-then-wanted gives giver wants wanted =
+    ((λ g. record { judges = rw g; decides = λ room. rw g }), (λ g w. record { judges = rw (g, w); decides = λ room. rw (g, w) }))
+
+-- what does not fail writes nothing
+pub nothing-written : NothingWritten
+unfolding outAfter
+nothing-written gives giver wants wanted out = go (decided gives giver wants wanted (length out))
+  where
+    go : (d : Said) → ((s o n : ℕ) → d ≡ fails s o n → ⊥) → writing giver wanted out d ≡ out
+    go (holds m) h = refl
+    go (fails s o n) h = absurd (h s o n refl)
+    go (refused r p) h = refl

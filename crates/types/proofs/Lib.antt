@@ -5,6 +5,6 @@ pub mod Answers
 pub mod KeptFirst
 pub mod KeptStarts
 pub mod KeptLeast
-pub mod KeptOutside
 pub mod KeptOne
 pub mod Kept
+pub mod KeptWitness

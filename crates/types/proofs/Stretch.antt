@@ -13,6 +13,7 @@ use Rattle.meaning.specs.Allocation.{Allocation, bit}
 use Rattle.meaning.specs.Types.{wellFormed}
 use Rattle.meaning.specs.Written.{written, stretchFrom, stretchTo}
 use Rattle.meaning.specs.declared.SlotType.{SlotType}
+use Rattle.types.specs.Bounds.{lastStart, lastSlot}
 use Rattle.types.specs.Decision.{bytes}
 use Rattle.types.proofs.Windows.{period-positive, period-most}
 
@@ -33,8 +34,8 @@ module _ (giver wanted : SlotType) (s : ℕ) where
 
   -- and it is small, as is any multiple of T up to a period behind the window
   pub to-small
-      : (y : ℕ) → wellFormed giver ≡ true → wellFormed wanted ≡ true → s ≤ 16777216
-      → (s + wanted .t + (giver .t - y)) / giver .t * giver .t ≤ 16785408
+      : (y : ℕ) → wellFormed giver ≡ true → wellFormed wanted ≡ true → s ≤ lastStart
+      → (s + wanted .t + (giver .t - y)) / giver .t * giver .t ≤ lastSlot
   to-small y g w near =
       omega (arith, div-mul-le-self (s + wanted .t + (giver .t - y)) (giver .t), period-most giver g, period-most wanted w)
 

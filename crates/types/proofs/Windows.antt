@@ -23,6 +23,7 @@ use Rattle.meaning.specs.declared.Kind.{Kind}
 use Rattle.meaning.specs.declared.Kind.the-variants.{Aligned, Sliding}
 use Rattle.meaning.proofs.WellFormed.{bounds}
 use Rattle.divisors.specs.Common.{Common}
+use Rattle.divisors.proofs.Reach.{common-reached}
 use Rattle.owed.proofs.Owed.{whole, head, owed}
 use Rattle.owed.proofs.Ones.{ones-le}
 use Rattle.owed.proofs.Lowest.{lowest-ext}
@@ -141,7 +142,7 @@ module _ (giver : SlotType) (n d : ℕ) (g : wellFormed giver ≡ true) (common 
       ≡ min (onesFrom giver wanted (giver .c / d * d)) (onesFrom giver wanted (giver .c / d * d + d))
   unfolding leastOnes turns onesAt at
   least-two wants wanted w e =
-      let reach = common .reach (rw e (step-positive wants wanted w)) in
+      let reach = common-reached (giver .t) n d (rw e (step-positive wants wanted w)) common in
       rw (owed-from giver wanted (giver .c / d * d) g, owed-from giver wanted (giver .c / d * d + d) g)
       (lowest-ext (onesAt giver wants wanted) (at (giver .c) (giver .t) n (wanted .t)) (wanted .t) (giver .t) (λ j l. rw e (owed-from giver wanted _ g))
       ∙ least-between (giver .c) (giver .t) (wanted .t) n d (reach .times) (reach .blocks) (giver .c / d)

@@ -1,47 +1,32 @@
--- The decision on a pair of types and what it writes: document 01, "Types and what they mean", and the order of its refusals. Assumes nothing.
+-- The decision on a pair of types, with its allocation: document 01, "Types and what they mean", and the order of its refusals. Assumes nothing.
 use Prim.Native.Nat.{ℕ, zero, suc, _+_, _-_}
 use mathlib.Core.Bool.{cond}
 use mathlib.Core.List.{List, [], _∷_, _++_}
 use lib.Dec.{leb}
 use lib.ListN.{length, drop}
 use Rattle.meaning.specs.Allocation.{Allocation, bit}
-use Rattle.meaning.specs.Types.{wellFormed}
 use Rattle.meaning.specs.Written.{written, stretchFrom, stretchTo}
 use Rattle.meaning.specs.declared.SlotType.{SlotType}
 use Rattle.meaning.specs.declared.Kind.{Kind}
-use Rattle.answers.specs.Answers.{Place, none, at, placed}
-use Rattle.types.specs.Least.{onesFrom, leastOnes, firstShort}
-use Rattle.types.specs.declared.Verdict.{Verdict}
-use Rattle.types.specs.declared.Verdict.the-variants as verdict
+use Rattle.answers.specs.Answers.{Place, none, placed}
+use Rattle.types.specs.Least.{onesFrom, firstShort}
+use Rattle.types.specs.Verdict.{judged}
+use Rattle.types.specs.Verdict as verdict
 use Rattle.types.specs.declared.Decision.{Decision}
-use Rattle.types.specs.declared.Decision.the-variants as decision
+use Rattle.types.specs.declared.Decision.the-variants.{Holds, Fails, Refused}
 
--- What an answer says in document 01's own terms: the pair holds, with the least ones of any wanted window; it falls short, with that same
--- number; it fails, with a window start, the ones there and the length of the stretch; or it is refused, with number and place.
+-- What a decision says in document 01's own terms, "one of three things": the pair holds, with the least ones of any wanted window; it fails, with a
+-- window start, the ones there and the length of the stretch; or it is refused, with number and place.
 pub data Said : Type 0 where
   holds : ℕ → Said
-  short : ℕ → Said
   fails : ℕ → ℕ → ℕ → Said
   refused : ℕ → Place → Said
 
 -- a place is a byte here, and 255 stands for none
-abbrev pub said : Verdict → Said
-said (verdict.Holds m) = holds m
-said (verdict.Short m) = short m
-said (verdict.Refused r p) = refused r (placed 255 p)
-
 abbrev pub saidOf : Decision → Said
-saidOf (decision.Holds m) = holds m
-saidOf (decision.Fails s o n) = fails s o n
-saidOf (decision.Refused r p) = refused r (placed 255 p)
-
--- 01: "A pair decision tests giver, then wanted (4, place 0 or 1)"; without an allocation, it then holds or falls short
-unfoldable pub judged : Kind → SlotType → Kind → SlotType → Said
-judged gives giver wants wanted =
-    let least = leastOnes gives giver wants wanted in
-    cond (wellFormed giver)
-    (cond (wellFormed wanted) (cond (leb (wanted .c) least) (holds least) (short least)) (refused 4 (at 1)))
-    (refused 4 (at 0))
+saidOf (Holds m) = holds m
+saidOf (Fails s o n) = fails s o n
+saidOf (Refused r p) = refused r (placed 255 p)
 
 -- the length of the stretch around the window that starts at s
 unfoldable pub stretch : SlotType → SlotType → ℕ → ℕ
@@ -54,12 +39,11 @@ failing giver wanted room s =
     (fails s (onesFrom giver wanted s) (stretch giver wanted s))
     (refused 17 none)
 
--- with an allocation: the same verdict, but a pair that falls short shows the first window that does
-abbrev pub showing : Said → Said → Said
-showing (holds m) f = holds m
-showing (short m) f = f
-showing (fails s o n) f = fails s o n
-showing (refused r p) f = refused r p
+-- by the verdict: where it holds or is refused the decision says the same, and where it falls short, what is found of the first window that does
+abbrev pub showing : verdict.Said → Said → Said
+showing (verdict.holds m) found = holds m
+showing (verdict.short m) found = found
+showing (verdict.refused r p) found = refused r p
 
 unfoldable pub decided : Kind → SlotType → Kind → SlotType → ℕ → Said
 decided gives giver wants wanted room =
@@ -73,7 +57,6 @@ bytes α from (suc n) = bytes α from n ++ (bit (α (from + n)) ∷ [])
 -- 01: "Bytes beyond the stretch stay. A pair that holds writes nothing", and "Every refusal .. writes nowhere"
 abbrev pub writing : SlotType → SlotType → List ℕ → Said → List ℕ
 writing giver wanted out (holds m) = out
-writing giver wanted out (short m) = out
 writing giver wanted out (fails s o n) =
     bytes (written (giver .c) (giver .t) s (wanted .t)) (stretchFrom (giver .t) s) n ++ drop n out
 writing giver wanted out (refused r p) = out

@@ -7,12 +7,13 @@ ghost use lib.ListN.{length, drop};
 ghost use Rattle.meaning.specs.Allocation.{bit};
 ghost use Rattle.meaning.specs.Types.{wellFormed};
 ghost use Rattle.meaning.specs.Written.{written, stretchFrom, stretchTo};
+ghost use Rattle.types.specs.Bounds.{lastStart, lastSlot};
 ghost use Rattle.types.specs.Decision.{saidOf, failing, writing, bytes};
 use meaning::SlotType;
 
 // The failing window that starts at s: its ones, and its allocation where there is room.
 pub fn fail(giver: SlotType, wanted: SlotType, s: u32, out: &mut [u8]) -> crate::Decision
-    requires { ⌜ ((wellFormed giver ≡ true) × (wellFormed wanted ≡ true)) × (s ≤ 16777216) ⌝ }
+    requires { ⌜ ((wellFormed giver ≡ true) × (wellFormed wanted ≡ true)) × (s ≤ lastStart) ⌝ }
     ensures answer { λ r. ⌜ saidOf r ≡ failing giver wanted (length (now (out .entry))) s ⌝ }
     ensures buffer { λ r. ⌜ now (out .exit) ≡ writing giver wanted (now (out .entry)) (failing giver wanted (length (now (out .entry))) s) ⌝ }
 {
@@ -43,8 +44,8 @@ fn first_slot(giver: SlotType, s: u32) -> u32
 
 // The first multiple of T at or above the window's end.
 fn last_slot(giver: SlotType, wanted: SlotType, s: u32) -> u32
-    requires { ⌜ ((wellFormed giver ≡ true) × (wellFormed wanted ≡ true)) × (s ≤ 16777216) ⌝ }
-    ensures { λ r. ⌜ (r ≡ stretchTo (giver .t) s (wanted .t)) × ((s ≤ r) × (r ≤ 16785408)) ⌝ }
+    requires { ⌜ ((wellFormed giver ≡ true) × (wellFormed wanted ≡ true)) × (s ≤ lastStart) ⌝ }
+    ensures { λ r. ⌜ (r ≡ stretchTo (giver .t) s (wanted .t)) × ((s ≤ r) × (r ≤ lastSlot)) ⌝ }
 {
     let t = giver.t as u32;
     let long = wanted.t as u32;
@@ -53,7 +54,7 @@ fn last_slot(giver: SlotType, wanted: SlotType, s: u32) -> u32
 
 // The bytes of the n slots from slot `from` on, at the front of `out`.
 fn write(giver: SlotType, wanted: SlotType, s: u32, from: u32, n: u32, out: &mut [u8])
-    requires { ⌜ (((wellFormed giver ≡ true) × (wellFormed wanted ≡ true)) × (s ≤ 16777216)) × ((from + n ≤ 16785408) × (n ≤ length (now out))) ⌝ }
+    requires { ⌜ (((wellFormed giver ≡ true) × (wellFormed wanted ≡ true)) × (s ≤ lastStart)) × ((from + n ≤ lastSlot) × (n ≤ length (now out))) ⌝ }
     ensures { λ r. ⌜ now (out .exit) ≡ bytes (written (giver .c) (giver .t) s (wanted .t)) from n ++ drop n (now (out .entry)) ⌝ }
 {
     let mut i: u32 = 0;
@@ -65,7 +66,7 @@ fn write(giver: SlotType, wanted: SlotType, s: u32, from: u32, n: u32, out: &mut
 
 // The byte of slot n.
 fn slot_byte(giver: SlotType, wanted: SlotType, s: u32, n: u32) -> u8
-    requires { ⌜ ((wellFormed giver ≡ true) × (wellFormed wanted ≡ true)) × ((s ≤ 16777216) × (n ≤ 16785408)) ⌝ }
+    requires { ⌜ ((wellFormed giver ≡ true) × (wellFormed wanted ≡ true)) × ((s ≤ lastStart) × (n ≤ lastSlot)) ⌝ }
     ensures { λ r. ⌜ r ≡ bit (written (giver .c) (giver .t) s (wanted .t) n) ⌝ }
 {
     let c = giver.c as u32;

@@ -3,6 +3,7 @@ ghost use mathlib.Core.Path.{_≡_};
 ghost use mathlib.Core.Bool.{true};
 ghost use Prim.Native.Nat.{_-_, _≤_, min};
 ghost use Rattle.meaning.specs.Types.{wellFormed};
+ghost use Rattle.types.specs.Bounds.{lastStart};
 ghost use Rattle.types.specs.Least.{step, turns, onesFrom, onesAt, leastOnes, firstBelow, firstShort};
 use meaning::Kind;
 use meaning::SlotType;
@@ -62,7 +63,7 @@ pub fn ones_from(giver: SlotType, wanted: SlotType, s: u32) -> u16
 // The start of the first wanted window that falls short.
 pub fn first_short(gives: Kind, giver: SlotType, wants: Kind, wanted: SlotType) -> u32
     requires { ⌜ (wellFormed giver ≡ true) × (wellFormed wanted ≡ true) ⌝ }
-    ensures { λ r. ⌜ (r ≡ firstShort gives giver wants wanted) × (r ≤ 16777216) ⌝ }
+    ensures { λ r. ⌜ (r ≡ firstShort gives giver wants wanted) × (r ≤ lastStart) ⌝ }
 {
     let far = next(wants, wanted);
     first_below(giver, wants, wanted, starts(gives, giver)) * far

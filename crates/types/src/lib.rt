@@ -1,9 +1,10 @@
 // The decision on pairs of types: document 01, "Types and what they mean". One type may stand in for another exactly when every allocation that
 // honours the first honours the second. A pair that holds is decided with no loop over starts; only a failing pair looks for its first window.
-// What the answers say is in specs/Decision.antt, and what that means in specs/Promises.antt.
+// What the answers say is in specs/Verdict.antt and specs/Decision.antt, and what that means in specs/Promises.antt.
 ghost use mathlib.Core.Path.{_≡_};
 ghost use lib.ListN.{length};
-ghost use Rattle.types.specs.Decision.{said, saidOf, judged, decided, outAfter};
+ghost use Rattle.types.specs.Verdict.{said, judged};
+ghost use Rattle.types.specs.Decision.{saidOf, decided, outAfter};
 
 mod allocation;
 mod least;

@@ -1,4 +1,4 @@
--- `divisors::common` meets its contract. The loop keeps the common divisors and what is reached; what is left over falls. Assumes nothing.
+-- `divisors::common` meets its contract. The loop keeps the common divisors; what is left over falls. Assumes nothing.
 use borrow.Author.Needs.{needs}
 use native.Mathlib.Nat.{mod-lt}
 use native.Mathlib.Omega.{arith}

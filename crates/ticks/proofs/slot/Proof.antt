@@ -3,8 +3,8 @@ use Prim.Native.Nat.{_<_}
 use native.Mathlib.Omega.{arith}
 use borrow.Author.Needs.{needs}
 use Rattle.ticks.proofs.Arithmetic.{add-one-mul}
-use Rattle.ticks.proofs.Answers.{refused-alike, one-more, p-positive, q-positive, times-q}
-use Rattle.ticks.proofs.Kept.{slot-found}
+use Rattle.ticks.proofs.Answers.{one-more, p-positive, q-positive, times-q}
+use Rattle.ticks.proofs.Kept.{slot-refused, slot-found}
 use Rattle.ticks.proofs.slot.Statement.{statement}
 use Rattle.ticks.proofs.slot.Tie as tie
 
@@ -15,7 +15,7 @@ enum-told : tie.Need-enum-told
 enum-told c = search needs
 
 returns : tie.Need-returns
-returns c = λ n latest. search refused-alike
+returns c = search slot-refused
 
 cast-p : tie.Need-cast-p
 cast-p c = search needs

@@ -20,7 +20,7 @@ cast-q : tie.Need-cast-q
 cast-q c = search needs
 
 floor-requires : tie.Need-floor-requires
-floor-requires c κs = search (times-p, q-positive)
+floor-requires c κs = search (needs, times-p, q-positive)
 
 within-requires : tie.Need-within-requires
 within-requires c κs = search needs

@@ -2,6 +2,7 @@
 use borrow.Author.Needs.{needs}
 use mir.Facts.{fits-le, fits-lit}
 use native.Mathlib.Omega.{arith}
+use Rattle.types.specs.Bounds.{lastSlot}
 use Rattle.types.proofs.Windows.{period-positive}
 use Rattle.types.proofs.Stretch.{stretch-to, to-behind, to-small}
 use Rattle.types.proofs.allocation.last_slot.Statement.{statement}
@@ -26,7 +27,7 @@ div-result : tie.Need-div-result
 div-result c = search period-positive
 
 mul-result : tie.Need-mul-result
-mul-result c = fits-le {n = 16785408} (search to-small) (fits-lit tt)
+mul-result c = fits-le {n = lastSlot} (search to-small) (fits-lit tt)
 
 returns : tie.Need-returns
 returns c = (search stretch-to, (search to-behind, search to-small))

@@ -3,6 +3,7 @@ use Prim.Native.Nat.{_-_, _≤_}
 use mathlib.Core.Path.{_≡_}
 use borrow.Author.Needs.{needs}
 use mir.Facts.{fits-le, fits-lit}
+use Rattle.types.specs.Bounds.{lastStart}
 use Rattle.types.specs.Least.{firstBelow}
 use Rattle.types.proofs.First.{onesApart, from-first, start-small, passed, first-found, none-found}
 use Rattle.types.proofs.least.first_below.Statement.{statement}
@@ -22,7 +23,7 @@ loop-holds : tie.Need-loop-holds Inv-loop μ-loop
 loop-holds c = search (needs, from-first)
 
 mul-ones-from : tie.Need-mul-ones-from Inv-loop μ-loop
-mul-ones-from c = fits-le {n = 16777216} (search start-small) (fits-lit tt)
+mul-ones-from c = fits-le {n = lastStart} (search start-small) (fits-lit tt)
 
 ones-from-requires : tie.Need-ones-from-requires Inv-loop μ-loop
 ones-from-requires c κs = search needs

@@ -1,6 +1,7 @@
 -- `types::least::first_short` meets its contract. Assumes nothing.
 use borrow.Author.Needs.{needs}
 use mir.Facts.{fits-le, fits-lit}
+use Rattle.types.specs.Bounds.{lastStart}
 use Rattle.types.proofs.Windows.{starts-few}
 use Rattle.types.proofs.First.{start-small, first-start}
 use Rattle.types.proofs.least.first_short.Statement.{statement}
@@ -16,7 +17,7 @@ first-below-requires : tie.Need-first-below-requires
 first-below-requires c κs = search (needs, starts-few)
 
 mul-result : tie.Need-mul-result
-mul-result c = fits-le {n = 16777216} (search (start-small, starts-few)) (fits-lit tt)
+mul-result c = fits-le {n = lastStart} (search (start-small, starts-few)) (fits-lit tt)
 
 returns : tie.Need-returns
 returns c = (search first-start, search (start-small, starts-few))

@@ -115,6 +115,12 @@ unfolding first
 first-refused Accepted b r k e = inr (refl, e)
 first-refused (Refused r' k') b r k e = inl e
 
+-- joins may be grouped either way
+pub first-assoc : (a b c : Answer) → first (first a b) c ≡ first a (first b c)
+unfolding first
+first-assoc Accepted b c = refl
+first-assoc (Refused r k) b c = refl
+
 -- answers join alike where the first ones are the same, and so are the second ones wherever the first is accepted
 pub first-alike : {a c b d : Answer} → a ≡ c → (a ≡ Accepted → b ≡ d) → first a b ≡ first c d
 unfolding first

@@ -13,7 +13,7 @@ use Rattle.plans.specs.Plan.{wantedOf, servedOf}
 use Rattle.plans.specs.declared.Plan.{Plan}
 use Rattle.rules.specs.Fit.{Fit}
 use Rattle.reader.specs.declared.Reading.{Reading}
-use Rattle.reader.proofs.Kept.{hands-out-fit}
+use Rattle.reader.proofs.Kept.{accepted-fit}
 use Rattle.dispatch.specs.View.{bitOf, isLeaf, servedC, servedT}
 use Rattle.unending.specs.Unending.{charged}
 use Rattle.unending.proofs.Kept.{granted-exactly}
@@ -46,7 +46,7 @@ module _ {bytes : List ℕ} {plan : Plan} {supplies declines out : List ℕ} (ru
   -- an accepted plan fits
   fit : Fit plan
   fit =
-      rw (ap (λ (r : Reading). r .plan) (run .accepted)) at (hands-out-fit bytes (ap (λ (r : Reading). r .answer) (run .accepted)))
+      rw (ap (λ (r : Reading). r .plan) (run .accepted)) at (accepted-fit bytes (ap (λ (r : Reading). r .answer) (run .accepted)))
 
   -- in a window inside the run a partition receives the slots in which it is charged
   received-charged : (supply : ℕ → ℕ) → FirstPartOf supplies supply → (i : ℕ) → Partition plan i → (w n : ℕ) → w + n ≤ length supplies →

@@ -32,7 +32,7 @@ module _ (s : List ℕ) where
   -- bytes that are accepted spell a sound value, so that the rules decide
   pub spelled-checked : checkBytes s ≡ Accepted → checked (planOf s) ≡ rules (planOf s)
   unfolding checked
-  spelled-checked e = rw (spelled-sound s (bytes-kept s .0 e))
+  spelled-checked e = rw (spelled-sound s (bytes-kept s .0 e .fields))
 
   -- past the bytes the check of the value that they spell decides
   pub rules-decide : (b a : Answer) (plan : Plan) → b ≡ checkBytes s → b ≡ Accepted → plan ≡ planOf s → a ≡ checked plan → a ≡ readAnswer s
@@ -79,7 +79,7 @@ module _ (s : List ℕ) (i : ℕ) (reading : Reading) (e : reading ≡ readPlan 
     unfolding readAnswer
     name-ends =
         let kept = bytes-kept s .0 (first-accepted-left (checkBytes s) (rules (planOf s)) (sym answered ∙ h)) in
-        omega (arith, kept .names i (omega arith) .whole, start, long)
+        omega (arith, kept .fields .names i (omega arith) .whole, start, long)
 
     -- and is the part of them after its length byte
     pub name-part : take (k + 1 + b - (k + 1)) (drop (k + 1) s) ≡ nameOf s i

@@ -78,18 +78,19 @@ module _ (plan : Plan) (sound : Sound plan) where
         broken-refused b is ∙ ap₂ Refused numbered placed,
   )
 
-  -- by 11 to 14,
-  pub broken-number : (r k : ℕ) → FirstBrokenAt plan r k → 11 ≤ r
-  broken-number r k (eleven i, is, numbered, placed) = omega arith
-  broken-number r k (twelve x i, is, numbered, placed) = omega arith
-  broken-number r k (thirteen x i, is, numbered, placed) = omega arith
-  broken-number r k (fourteen x i, is, numbered, placed) = omega arith
+  -- by 11 to 14, at a node,
+  pub broken-range : (r k : ℕ) → FirstBrokenAt plan r k → (11 ≤ r) × (r ≤ 14) × (k < 64)
+  broken-range r k (b, is, numbered, placed) = go b numbered (omega (arith, broken-there plan b (is .broken), sound .sixty-four-nodes))
+    where
+      go : (c : Breach) → number c ≡ r → k < 64 → (11 ≤ r) × (r ≤ 14) × (k < 64)
+      go (eleven i) e l = (omega arith, omega arith, l)
+      go (twelve x i) e l = (omega arith, omega arith, l)
+      go (thirteen x i) e l = (omega arith, omega arith, l)
+      go (fourteen x i) e l = (omega arith, omega arith, l)
 
-  -- at a place that is a node's
+  -- which is a place
   pub broken-place : (r k : ℕ) → FirstBrokenAt plan r k → k < nowhere
-  broken-place r k h =
-      let (b, is, numbered, placed) = h in
-      omega (arith, broken-there plan b (is .broken), sound .sixty-four-nodes)
+  broken-place r k h = omega (arith, broken-range r k h .2)
 
 -- a value that the test takes fits
 fits-fit : (plan : Plan) → isFit plan ≡ true → Fit plan

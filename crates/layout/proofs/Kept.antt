@@ -69,7 +69,7 @@ unfolding isFit checked accepts
 fit-rules plan h = accepts-accepted (rules plan) (rw (kept-sound plan (h .sound)) at (fits-exactly plan .1 h))
 
 -- the file of a value that fits is accepted
-fit-accepted : (s : List ℕ) (plan : Plan) (names : List (List ℕ)) → FileOf s plan names → Fit plan → readAnswer s ≡ Accepted
+pub fit-accepted : (s : List ℕ) (plan : Plan) (names : List (List ℕ)) → FileOf s plan names → Fit plan → readAnswer s ≡ Accepted
 unfolding readAnswer
 fit-accepted s plan names file h =
     first-accepted (checkBytes s) (rules (planOf s)) (file-accepted s plan names file (h .sound))

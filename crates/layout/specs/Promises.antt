@@ -64,6 +64,10 @@ OneReading =
     (s : List ℕ) (a b : Plan) (m n : List (List ℕ)) → Bytes s → FileOf s a m → Sound a → FileOf s b n → Sound b →
     (a ≡ b) × (m ≡ n)
 
+-- The file of a sound value is a list of bytes.
+abbrev pub FilesAreBytes : Type 0
+FilesAreBytes = (s : List ℕ) (plan : Plan) (names : List (List ℕ)) → FileOf s plan names → Sound plan → Bytes s
+
 -- A name that is handed out is the one that planBytes placed.
 abbrev pub NamesPlaced : Type 0
 NamesPlaced =

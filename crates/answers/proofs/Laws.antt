@@ -9,11 +9,11 @@ use native.Mathlib.Nat.{le-antisymm, eq-or-lt-of-le}
 use native.Mathlib.Numerals.{add-one}
 use native.Mathlib.Omega.{arith}
 use lib.Dec.{eqb}
-use borrow.Author.Tests.{eqb-true}
+use borrow.Author.Tests.{eqb-true, ne-eqb}
 use denote.Enum.Declared.{tagOf}
 use types.Run.{OneOf}
 use Rattle.answers.proofs.Answer.{the-type}
-use Rattle.answers.specs.Answers.{Place, none, at as place, nowhere, placed, said, accepts, first, test, each}
+use Rattle.answers.specs.Answers.{Place, none, at as place, nowhere, placed, accepted, refused as refuses, said, accepts, first, test, each}
 use Rattle.answers.specs.declared.Answer.{Answer}
 use Rattle.answers.specs.declared.Answer.the-variants.{Accepted, Refused}
 
@@ -22,12 +22,12 @@ abbrev pub Refusal : Answer → Type 0
 Refusal a = OneOf (1 ∷ []) (tagOf the-type a)
 
 -- the number that stands for a place
-pub unplaced : ℕ → Place → ℕ
+abbrev pub unplaced : ℕ → Place → ℕ
 unplaced largest none = largest
 unplaced largest (place k) = k
 
 pub unplaced-placed : (largest k : ℕ) → unplaced largest (placed largest k) ≡ k
-unfolding placed unplaced
+unfolding placed
 unplaced-placed largest k = go (eqb k largest) refl
   where
     go : (b : Bool) → eqb k largest ≡ b → unplaced largest (cond b none (place k)) ≡ k
@@ -43,6 +43,29 @@ said-injective (Refused r k) (Refused r' k') e =
     let alike : placed nowhere k ≡ placed nowhere k' = cc in
     let same = sym (unplaced-placed nowhere k) ∙ ap (unplaced nowhere) alike ∙ unplaced-placed nowhere k' in
     cc
+
+-- an answer that says that nothing is refused is accepted
+pub said-accepted : (a : Answer) → said a ≡ accepted → a ≡ Accepted
+said-accepted Accepted e = refl
+said-accepted (Refused r k) e = cc
+
+-- an answer that says a refusal is that refusal, with the number that stands for its place
+pub said-refused : (a : Answer) (r : ℕ) (p : Place) → said a ≡ refuses r p → a ≡ Refused r (unplaced nowhere p)
+said-refused Accepted r p e = cc
+said-refused (Refused r' k) r p e =
+    let there : placed nowhere k ≡ p = cc in
+    let same = sym (unplaced-placed nowhere k) ∙ ap (unplaced nowhere) there in
+    cc
+
+-- a refusal at a place below the largest number says that place
+pub refused-at : (a : Answer) (r k : ℕ) → a ≡ Refused r k → k < nowhere → said a ≡ refuses r (place k)
+unfolding placed
+refused-at a r k e l = rw (e, ne-eqb k nowhere (λ h. omega arith))
+
+-- and the largest number says none
+pub refused-none : (r : ℕ) → said (Refused r nowhere) ≡ refuses r none
+unfolding placed
+refused-none r = refl
 
 -- an accepted answer accepts
 pub accepts-true : (a : Answer) → a ≡ Accepted → true ≡ accepts a
@@ -91,6 +114,12 @@ pub first-refused : (a b : Answer) (r k : ℕ) → first a b ≡ Refused r k →
 unfolding first
 first-refused Accepted b r k e = inr (refl, e)
 first-refused (Refused r' k') b r k e = inl e
+
+-- joins may be grouped either way
+pub first-assoc : (a b c : Answer) → first (first a b) c ≡ first a (first b c)
+unfolding first
+first-assoc Accepted b c = refl
+first-assoc (Refused r k) b c = refl
 
 -- answers join alike where the first ones are the same, and so are the second ones wherever the first is accepted
 pub first-alike : {a c b d : Answer} → a ≡ c → (a ≡ Accepted → b ≡ d) → first a b ≡ first c d

@@ -3,6 +3,7 @@ use Prim.Native.Nat.{ℕ, _+_, _-_, _*_, _≤_, _<_}
 use mathlib.Core.Bool.{true, false}
 use mathlib.Core.List.{List}
 use mathlib.Core.Path.{_≡_}
+use native.Mathlib.Omega.{arith}
 use borrow.Author.Tests.{lt-ltb, le-ltb, eq-eqb, ne-eqb}
 use Rattle.meaning.specs.declared.SlotType.{SlotType}
 use Rattle.fields.specs.Fields.{byteAt, typeAt}
@@ -11,7 +12,7 @@ use Rattle.plans.specs.declared.NodeKind.the-variants.{AlignedLeaf, SlidingLeaf
 use Rattle.plans.specs.declared.Parent.{Parent}
 use Rattle.plans.specs.declared.Parent.the-variants.{Supply, Node as Under}
 use Rattle.decode.specs.Positions.{nodesAt, nodeStart}
-use Rattle.decode.specs.Decode.{kindNamed, parentNamed, isNamed, parentOr, nodeOf}
+use Rattle.decode.specs.Decode.{kindNamed, parentOfByte, canBe, parentNamed, isNamed, parentOr, nodeOf}
 use Rattle.decode.specs.declared.Named.{Named}
 use Rattle.decode.specs.declared.Named.the-variants.{Parent as names, Nothing}
 
@@ -31,22 +32,22 @@ module _ (b : ℕ) where
 
   -- a parent byte below 8 names a supply, one from 128 to 191 a node, and any other nothing
   pub names-supply : b < 8 → names (Supply b) ≡ parentNamed b
-  unfolding parentNamed
-  names-supply h = rw (lt-ltb b 8 h)
+  unfolding parentOfByte canBe parentNamed
+  names-supply h = rw (lt-ltb b 128 (omega arith), lt-ltb b 8 h)
 
   module _ (h : 8 ≤ b) where
     pub names-no-supply : b < 128 → Nothing ≡ parentNamed b
-    unfolding parentNamed
-    names-no-supply l = rw (le-ltb b 8 h, lt-ltb b 128 l)
+    unfolding parentOfByte canBe parentNamed
+    names-no-supply l = rw (lt-ltb b 128 l, le-ltb b 8 h)
 
     module _ (l : 128 ≤ b) where
       pub names-node : b < 192 → names (Under (b - 128)) ≡ parentNamed b
-      unfolding parentNamed
-      names-node m = rw (le-ltb b 8 h, le-ltb b 128 l, lt-ltb b 192 m)
+      unfolding parentOfByte canBe parentNamed
+      names-node m = rw (le-ltb b 128 l, lt-ltb (b - 128) 64 (omega arith))
 
       pub names-no-node : 192 ≤ b → Nothing ≡ parentNamed b
-      unfolding parentNamed
-      names-no-node m = rw (le-ltb b 8 h, le-ltb b 128 l, le-ltb b 192 m)
+      unfolding parentOfByte canBe parentNamed
+      names-no-node m = rw (le-ltb b 128 l, le-ltb (b - 128) 64 (omega arith))
 
 -- a byte that names a parent is named, and names it; one that names nothing is not, and stands for supply 0
 module _ (n : Named) where

@@ -21,11 +21,17 @@ use Rattle.decode.specs.declared.Named.the-variants.{Parent as names, No
 unfoldable pub kindNamed : ℕ → NodeKind
 kindNamed b = cond (eqb b 0) AlignedLeaf (cond (eqb b 1) SlidingLeaf Host)
 
--- 01: "A parent byte below 128 names a supply, and 128 and up names node (byte − 128)". There are at most 8 supplies and 64 nodes, so the other
--- bytes name nothing.
+-- 01: "A parent byte below 128 names a supply, and 128 and up names node (byte − 128)"; whether that parent is there is not asked here
+unfoldable pub parentOfByte : ℕ → Parent
+parentOfByte b = cond (ltb b 128) (Supply b) (Under (b - 128))
+
+-- There are at most 8 supplies and 64 nodes, so that a byte of a plan file that would name another names nothing.
+unfoldable pub canBe : Parent → Bool
+canBe (Supply s) = ltb s 8
+canBe (Under h) = ltb h 64
+
 unfoldable pub parentNamed : ℕ → Named
-parentNamed b =
-    cond (ltb b 8) (names (Supply b)) (cond (ltb b 128) Nothing (cond (ltb b 192) (names (Under (b - 128))) Nothing))
+parentNamed b = cond (canBe (parentOfByte b)) (names (parentOfByte b)) Nothing
 
 -- whether a parent byte names anything, and what: supply 0, the zero of a parent, where it names nothing
 unfoldable pub isNamed : Named → Bool

@@ -13,7 +13,7 @@ use Rattle.fields.specs.Fields.{byteAt}
 use Rattle.decode.specs.Positions.{sizeOf, nameStart}
 use Rattle.decode.proofs.Entries.{plan-tidy}
 use Rattle.reader.specs.Read.{readAnswer, readPlan, nameOf}
-use Rattle.reader.proofs.Kept.{hands-out-fit}
+use Rattle.reader.proofs.Kept.{accepted-fit}
 use Rattle.reader.proofs.Spelled.{accepted-plan}
 use Rattle.numbers.proofs.Kept.{plan-laid-out, sound-held}
 use Rattle.exports.specs.Exports.{span}
@@ -24,7 +24,7 @@ pub handed-on : HandedOn
 unfolding readPlan
 handed-on bytes e =
     let tidy : Tidy (readPlan bytes .plan) = rw (accepted-plan bytes e) (plan-tidy _) in
-    plan-laid-out (readPlan bytes .plan) (sound-held (readPlan bytes .plan) tidy (hands-out-fit bytes e .sound))
+    plan-laid-out (readPlan bytes .plan) (sound-held (readPlan bytes .plan) tidy (accepted-fit bytes e .sound))
 
 -- as many of the front of a list as its front has are its front
 take-own : (n : ℕ) (x : List ℕ) → take (length (take n x)) x ≡ take n x

@@ -25,7 +25,7 @@ use Rattle.decode.specs.Positions.{sizeOf, nameStart}
 use Rattle.names.proofs.Starts.{start-is}
 use Rattle.reader.specs.Read.{readAnswer, readPlan, nameOf}
 use Rattle.reader.specs.declared.Reading.{Reading}
-use Rattle.reader.proofs.Kept.{hands-out-fit, refused-gives-zeros}
+use Rattle.reader.proofs.Kept.{accepted-fit, refused-zeros}
 use Rattle.numbers.specs.Numbers.{planLaid}
 use Rattle.numbers.proofs.Down.{plan-down}
 use Rattle.exports.specs.Exports.{
@@ -104,8 +104,8 @@ module _ (bytes lent : List ℕ) where
   few = go (readPlan bytes .answer) refl
     where
       go : (a : Answer) → readPlan bytes .answer ≡ a → (readPlan bytes .plan .cores ≤ 8) × (readPlan bytes .plan .size ≤ 64)
-      go Accepted e = let sound = hands-out-fit bytes e .sound in (sound .eight-cores, sound .sixty-four-nodes)
-      go (Refused r k) e = let zeros = refused-gives-zeros bytes r k e in (rw zeros (omega arith), rw zeros (omega arith))
+      go Accepted e = let sound = accepted-fit bytes e .sound in (sound .eight-cores, sound .sixty-four-nodes)
+      go (Refused r k) e = let zeros = refused-zeros bytes r k e in (rw zeros (omega arith), rw zeros (omega arith))
 
   -- so that it is laid down, whatever the answer
   pub read-laid : length lent ≡ 404 → (r : Reading) → r ≡ readPlan bytes → (b : Bool) (after : List ℕ) → (b, after) ≡ planLaid (r .plan) lent →

@@ -14,7 +14,7 @@ use Rattle.answers.specs.declared.Answer.the-variants.{Accepted, Refused}
 use Rattle.plans.specs.declared.Plan.{Plan}
 use Rattle.rules.specs.Check.{isFit}
 use Rattle.reader.specs.Read.{readPlan}
-use Rattle.reader.proofs.Kept.{refused-gives-zeros}
+use Rattle.reader.proofs.Kept.{refused-zeros}
 use Rattle.dispatch.specs.Slot.{unsupplied}
 use Rattle.dispatch.specs.Run.{Said, done, Standing, RunEnd, StepEnd, outcome, Course, outBy, ran, outAfter, stepped, started}
 use Rattle.dispatch.specs.Run as runs
@@ -117,7 +117,7 @@ refused-read bytes lent whole = rw (eq-eqb (length lent) 404 whole) (go (readPla
   where
     go : (a : Answer) → readPlan bytes .answer ≡ a → (answerOf a ≡ 0 → ⊥) → planNumbers (readPlan bytes .plan) ≡ replicate 404 0
     go Accepted e h = absurd (h refl)
-    go (Refused r k) e h = ap planNumbers (refused-gives-zeros bytes r k e) ∙ zeros-laid
+    go (Refused r k) e h = ap planNumbers (refused-zeros bytes r k e) ∙ zeros-laid
 
 -- fresh starts
 pub refused-fresh : RefusedFresh

@@ -1,25 +1,15 @@
 -- What specs/Promises.antt says of demand 3 holds: an accepted plan fits, and for a plan value that fits it is the crate `partitions` that says why. Assumes
 -- nothing.
-use mathlib.Core.Path.{_≡_}
 use lib.ListN.{getD}
-use Rattle.answers.specs.Answers.{accepted, said}
-use Rattle.answers.specs.declared.Answer.{Answer}
-use Rattle.answers.specs.declared.Answer.the-variants as answer
 use Rattle.rules.specs.Fit.{Fit}
-use Rattle.reader.specs.Read.{readPlan}
 use Rattle.reader.proofs.Kept.{hands-out-fit}
 use Rattle.partitions.specs.Case.{Case}
 use Rattle.partitions.proofs.Kept.{served, never-served-more, never-charged-more}
 use Rattle.guarantee.specs.Promises.{Accepted, Guarantee, NeverMore, NeverCharged}
 
--- an answer that says accepted is that
-said-accepted : (a : Answer) → said a ≡ accepted → a ≡ answer.Accepted
-said-accepted answer.Accepted e = cc
-said-accepted (answer.Refused r k) e = cc
-
 -- an accepted plan fits
 accepted-fit : (c : Case) → Accepted c → Fit (c .plan)
-accepted-fit c a = rw (a .value) at (hands-out-fit (c .bytes) (said-accepted (readPlan (c .bytes) .answer) (a .answer)))
+accepted-fit c a = rw (a .value) at (hands-out-fit (c .bytes) (a .answer))
 
 -- a partition receives what it asked for in each of its windows inside the run
 pub guarantee-kept : Guarantee

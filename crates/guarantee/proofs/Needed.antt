@@ -28,7 +28,7 @@ use Rattle.rules.specs.Fit.{sumTo, mostTo, childPeriod, longest, load, loadTo, 
 use Rattle.rules.specs.Check as check
 use Rattle.fields.specs.Fields.{byteAt, twoAt, fourAt, typeAt, there, checkType}
 use Rattle.decode.specs.Positions.{coresOf, supplyStart, nodesAt, sizeOf, nodeStart, namesAt, nameStart, endAt}
-use Rattle.decode.specs.Decode.{kindNamed, parentNamed, isNamed, parentOr, supplyOf, nodeOf, filled, planOf}
+use Rattle.decode.specs.Decode.{kindNamed, parentOfByte, canBe, parentNamed, isNamed, parentOr, supplyOf, nodeOf, filled, planOf}
 use Rattle.names.specs.Names.{isLength, isLetter, letterAt, checkLetter, agreesAt, sameName, differs, isNew, checkName, checkNames}
 use Rattle.reader.specs.Read as read
 use Rattle.reader.specs.Read.{readPlan}
@@ -171,7 +171,7 @@ unfolding
     check.holding check.elevenAt check.twelveAt check.alike check.thirteenAt check.fourteenAt check.checkParent check.checkSupply check.checkHost
     check.rules check.checked check.isFit
     byteAt twoAt fourAt typeAt there checkType coresOf supplyStart nodesAt sizeOf nodeStart namesAt nameStart endAt
-    kindNamed parentNamed isNamed parentOr supplyOf nodeOf filled planOf
+    kindNamed parentOfByte canBe parentNamed isNamed parentOr supplyOf nodeOf filled planOf
     isLength isLetter letterAt checkLetter agreesAt sameName differs isNew checkName checkNames
     read.checkPart read.checkTick read.checkCount read.checkSupply read.checkSupplies read.checkKind read.checkParent read.checkNode read.checkNodes
     read.checkEnd read.checkBytes read.readAnswer read.readPlan

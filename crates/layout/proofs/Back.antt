@@ -1,18 +1,19 @@
--- From the layout back to accepted checks: the file of a sound value and its names spells that value and those names, and keeps 1 to 10.
--- Assumes nothing.
+-- From the layout back to accepted checks: bytes that begin with the file of a sound value and its names spell that value and those names, and keep
+-- 1 to 9. Assumes nothing.
 use Prim.Native.Nat.{ℕ, zero, suc, _+_, _*_, _≤_, _<_}
 use mathlib.Core.Bool.{Bool, true, false, and-eq-true-iff}
 use mathlib.Core.List.{List, []}
-use mathlib.Core.Path.{_≡_, refl, sym, ap, _∙_}
+use mathlib.Core.Path.{_≡_, refl, sym, ap, subst, _∙_}
+use native.Mathlib.Nat.{zero-add}
 use native.Mathlib.Omega.{arith}
-use lib.ListN.{length, getD, length-append}
-use lib.Seq.{ext-getD}
+use lib.ListN.{length, getD, take, length-append}
+use lib.Seq.{ext-getD, getD-take, length-take-le}
 use Rattle.ticks.specs.Times.{inRange, isFit}
 use Rattle.ticks.proofs.Answers.{fit}
 use Rattle.meaning.specs.Types.{wellFormed}
 use Rattle.meaning.specs.declared.SlotType.{SlotType}
 use Rattle.meaning.proofs.WellFormed.{bounds}
-use Rattle.plans.specs.Plan.{zeroType, zeroNode, supplyAt, nodeAt, parentOf}
+use Rattle.plans.specs.Plan.{zeroType, zeroNode, supplyAt, nodeAt, parentOf, Tidy}
 use Rattle.plans.specs.Sound.{Sound, parentAllowed, within, sound}
 use Rattle.plans.specs.declared.NodeKind.{NodeKind}
 use Rattle.plans.specs.declared.NodeKind.the-variants.{AlignedLeaf, SlidingLeaf, Host}
@@ -26,14 +27,14 @@ use Rattle.decode.specs.Decode.{parentNamed, isNamed, supplyOf, nodeOf, planOf}
 use Rattle.decode.specs.declared.Named.the-variants.{Parent as names-parent}
 use Rattle.decode.proofs.Entries.{filled-is}
 use Rattle.names.specs.Names.{sameName}
-use Rattle.reader.proofs.Accepts.{BytesKept, NodeKept, NameKept}
-use Rattle.layout.specs.Layout.{twoBytes, fourBytes, typeBytes, kindByte, parentByte, nodeBytes, nameBytes, lays, supplyPart, nodePart, namePart}
+use Rattle.reader.proofs.Accepts.{FieldsKept, NodeKept, NameKept}
+use Rattle.layout.specs.Layout.{twoBytes, fourBytes, typeBytes, kindByte, parentByte, nodeBytes, nameBytes, lays, supplyPart, nodePart, namePart, planBytes, SoundNames}
 use Rattle.layout.specs.Promises.{FileOf}
-use Rattle.layout.proofs.Holds.{Holds, holds-at, lays-part}
+use Rattle.layout.proofs.Holds.{Holds, holds-self, holds-at, lays-part}
 use Rattle.layout.proofs.Numbers.{byte-read, rest-held, four-read, type-read}
 use Rattle.layout.proofs.Nodes.{parent-named, node-read}
 use Rattle.layout.proofs.Names.{nameIn, namesOf, names-count, names-at, length-read, name-read, same-equal}
-use Rattle.layout.proofs.Laid.{Laid, sizePlace, countPlace, namesPlace, supplies-length, nodes-length, file-laid}
+use Rattle.layout.proofs.Laid.{Laid, sizePlace, countPlace, namesPlace, supplies-length, nodes-length, plan-length, held-laid}
 
 -- the numbers of a well-formed type take two bytes
 small-count : (a : SlotType) → wellFormed a ≡ true → a .c < 65536
@@ -49,9 +50,29 @@ kind-small AlignedLeaf = omega arith
 kind-small SlidingLeaf = omega arith
 kind-small Host = omega arith
 
-module _ (s : List ℕ) (plan : Plan) (names : List (List ℕ)) (file : FileOf s plan names) where
+-- the bytes begin with the file of a plan value with these names
+pub record Begins (s : List ℕ) (plan : Plan) (names : List (List ℕ)) : Type 0 where
+  pub tidy : Tidy plan
+  pub named : SoundNames plan names
+  pub held : Holds s 0 (planBytes plan names)
+
+-- a file begins with itself,
+pub file-begins : (s : List ℕ) (plan : Plan) (names : List (List ℕ)) → FileOf s plan names → Begins s plan names
+file-begins s plan names file =
+    record { tidy = file .tidy; named = file .named; held = subst (λ x. Holds s 0 x) (file .laid) (holds-self s) }
+
+-- and so do bytes of which the first k are one
+pub part-begins : (s : List ℕ) (k : ℕ) (plan : Plan) (names : List (List ℕ)) → k ≤ length s → FileOf (take k s) plan names → Begins s plan names
+unfolding byteAt
+part-begins s k plan names l file =
+    let long = length-take-le k s l in
+    let start : Holds s 0 (take k s) =
+    record { within = omega arith; bytes = λ j m. ap (λ i. getD s i 0) (zero-add j) ∙ sym (getD-take k s j 0 (omega arith)) } in
+    record { tidy = file .tidy; named = file .named; held = subst (λ x. Holds s 0 x) (file .laid) start }
+
+module _ (s : List ℕ) (plan : Plan) (names : List (List ℕ)) (file : Begins s plan names) where
   laid : Laid s plan names
-  laid = file-laid s plan names (file .laid)
+  laid = held-laid s plan names (file .held)
 
   -- the counts as they are read off, and where the sections stand by them
   cores-read : coresOf s ≡ plan .cores
@@ -97,6 +118,11 @@ module _ (s : List ℕ) (plan : Plan) (names : List (List ℕ)) (file : FileOf s
   name-here : (i : ℕ) → i < plan .size → Holds s (nameStart s i) (nameBytes (getD names i []))
   unfolding namePart
   name-here i l = holds-at s _ _ _ (sym (name-start i (omega arith))) (name-part i l)
+
+  -- the last name ends where the file does
+  pub end-read : endAt s ≡ length (planBytes plan names)
+  unfolding endAt
+  end-read = ap (nameStart s) size-read ∙ name-start (plan .size) (omega arith) ∙ sym (plan-length plan names)
 
   -- a file spells the names that it was laid out with
   pub names-read : namesOf s ≡ names
@@ -210,10 +236,10 @@ module _ (s : List ℕ) (plan : Plan) (names : List (List ℕ)) (file : FileOf s
           served = ap (λ n. wellFormed (n .served)) read ∙ sound .served i l;
         }
 
-    -- and the whole keeps 1 to 10
-    pub file-kept : BytesKept s
-    unfolding isFit coresOf sizeOf fourBytes typeBytes twoBytes supplyOf endAt
-    file-kept =
+    -- and the whole keeps 1 to 9
+    pub begun-kept : FieldsKept s
+    unfolding isFit coresOf sizeOf fourBytes typeBytes twoBytes supplyOf
+    begun-kept =
         let tick = and-eq-true-iff (inRange (plan .tick .p)) (inRange (plan .tick .q)) .0 (sound .tick) in
         record {
           one = byte-read s 0 _ _ (laid .one);
@@ -239,5 +265,4 @@ module _ (s : List ℕ) (plan : Plan) (names : List (List ℕ)) (file : FileOf s
           count-there = omega (arith, laid .count .within, count-place);
           count = ap (byteAt s) count-place ∙ byte-read s (countPlace plan) _ _ (laid .count) ∙ sym size-read;
           names = λ i l. name-kept i (omega (arith, size-read));
-          ends = omega (arith, laid .ends, ap (nameStart s) size-read, name-start (plan .size) (omega arith));
         }

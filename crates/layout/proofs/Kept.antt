@@ -1,56 +1,67 @@
 -- What specs/Promises.antt says of plan files holds. Assumes nothing.
-use Prim.Native.Nat.{ℕ, _<_}
+use Prim.Native.Nat.{ℕ, _≤_, _<_}
 use mathlib.Core.List.{List, []}
-use mathlib.Core.Logic.{_↔_, _⊎_, inl, inr}
-use mathlib.Core.Path.{_≡_, sym, ap, subst, _∙_}
+use mathlib.Core.Logic.{_⊎_, inl, inr}
+use mathlib.Core.Path.{_≡_, refl, sym, ap, subst, _∙_}
 use native.Mathlib.Omega.{arith}
-use lib.ListN.{getD}
+use lib.ListN.{length, getD, take}
+use lib.Seq.{length-take-le}
 use borrow.Author.Tests.{lt-ltb}
-use Rattle.answers.specs.Answers.{accepts}
+use Rattle.answers.specs.Answers.{Place, none, at, nowhere, refused, said, accepts}
+use Rattle.answers.specs.declared.Answer.{Answer}
 use Rattle.answers.specs.declared.Answer.the-variants.{Accepted, Refused}
-use Rattle.answers.proofs.Laws.{first-accepted, first-accepted-left, first-second, first-refused, accepts-true, accepts-accepted}
+use Rattle.answers.proofs.Laws.{said-accepted, said-refused, refused-at, first-accepted, first-accepted-left, first-first, first-second, first-refused, accepts-true, accepts-accepted}
 use Rattle.plans.specs.Sound.{Sound, sound}
 use Rattle.plans.specs.declared.Plan.{Plan}
 use Rattle.plans.proofs.Kept.{sound-kept, kept-sound}
 use Rattle.rules.specs.Fit.{Fit}
-use Rattle.rules.specs.Broken.{Breach, FirstBroken, number, place}
+use Rattle.rules.specs.Broken.{FirstBrokenAt}
 use Rattle.rules.specs.Check.{rules, checked, isFit}
-use Rattle.rules.proofs.Kept.{fits-exactly, first-exactly}
-use Rattle.decode.specs.Positions.{sizeOf}
+use Rattle.rules.proofs.Kept.{fits-exactly, rules-exactly, broken-range, broken-place}
+use Rattle.decode.specs.Positions.{sizeOf, endAt}
 use Rattle.decode.specs.Decode.{planOf}
-use Rattle.reader.specs.Read.{checkBytes, readAnswer, readPlan, nameOf}
-use Rattle.reader.proofs.Accepts.{bytes-kept}
-use Rattle.reader.proofs.Spelled.{spelled-sound, accepted-plan, accepted-fits}
-use Rattle.layout.specs.Promises.{Bytes, FileOf, AcceptsExactly, RefusesByRules, OneReading, NamesPlaced}
+use Rattle.reader.specs.Read.{checkEnd, checkBytes, readAnswer, readPlan, nameOf}
+use Rattle.reader.proofs.Accepts.{checkFields, bytes-checked, fields-kept, bytes-kept}
+use Rattle.reader.proofs.Spelled.{spelled-sound, accepted-plan}
+use Rattle.reader.proofs.Kept.{accepted-fit}
+use Rattle.layout.specs.Promises.{Bytes, FileOf, SoundFile, AcceptsExactly, RefusesByBytes, LeftOverExactly, RefusesByRules, RefusesAtPlace, OneReading, NamesPlaced}
 use Rattle.layout.proofs.Names.{nameIn, namesOf, names-at}
-use Rattle.layout.proofs.Out.{spelled-file}
-use Rattle.layout.proofs.Back.{plan-read, names-read, file-kept}
-use Rattle.layout.proofs.Refusals.{bytes-refusal}
+use Rattle.layout.proofs.Out.{spelled-start, spelled-file}
+use Rattle.layout.proofs.Back.{file-begins, part-begins, end-read, plan-read, names-read, begun-kept}
+use Rattle.layout.proofs.Refusals.{bytes-refusal, left-over, over-refused}
 
--- no check of the bytes refuses exactly when they are the file of the value and the names that they spell, and that value is sound
-pub bytes-exactly : (s : List ℕ) → Bytes s → (checkBytes s ≡ Accepted) ↔ (FileOf s (planOf s) (namesOf s) × Sound (planOf s))
-bytes-exactly s small = (
-  λ e.
-      let kept = bytes-kept s .0 e in
-      (spelled-file s kept small, sound-kept (planOf s) (spelled-sound s kept)),
-  λ h. bytes-kept s .1 (file-kept s (planOf s) (namesOf s) (h .0) (h .1)),
-)
+-- where no check of the bytes refuses, they are the file of the value and the names that they spell, and that value is sound
+spelled : (s : List ℕ) → Bytes s → checkBytes s ≡ Accepted → FileOf s (planOf s) (namesOf s) × Sound (planOf s)
+spelled s small e =
+    let kept = bytes-kept s .0 e in
+    (spelled-file s (kept .fields) small (kept .ends), sound-kept (planOf s) (spelled-sound s (kept .fields)))
 
--- no check refuses the file of a sound value
-file-accepted : (s : List ℕ) (plan : Plan) (names : List (List ℕ)) → FileOf s plan names → Sound plan → checkBytes s ≡ Accepted
-file-accepted s plan names file sound = bytes-kept s .1 (file-kept s plan names file sound)
+module _ (s : List ℕ) (plan : Plan) (names : List (List ℕ)) (file : FileOf s plan names) where
+  -- a file spells the names that it was laid out with,
+  file-names : namesOf s ≡ names
+  file-names = names-read s plan names (file-begins s plan names file)
+
+  module _ (sound : Sound plan) where
+    -- and its value, where that is sound,
+    file-plan : planOf s ≡ plan
+    file-plan = plan-read s plan names (file-begins s plan names file) sound
+
+    -- and then no check of the bytes refuses it
+    file-accepted : checkBytes s ≡ Accepted
+    file-accepted =
+        let begins = file-begins s plan names file in
+        bytes-kept s .1
+        (record {
+          fields = begun-kept s plan names begins sound;
+          ends = omega (arith, end-read s plan names begins, ap length (file .laid));
+        })
 
 -- a file has one reading
 pub one-reading : OneReading
 one-reading s a b m n small file-a sound-a file-b sound-b = (
-  sym (plan-read s a m file-a sound-a) ∙ plan-read s b n file-b sound-b,
-  sym (names-read s a m file-a) ∙ names-read s b n file-b,
+  sym (file-plan s a m file-a sound-a) ∙ file-plan s b n file-b sound-b,
+  sym (file-names s a m file-a) ∙ file-names s b n file-b,
 )
-
--- an accepted read is told by its answer and its plan value
-accepted-read : (s : List ℕ) → readAnswer s ≡ Accepted → readPlan s ≡ record { answer = Accepted; plan = planOf s }
-unfolding readPlan
-accepted-read s e = λ j. record { answer = e j; plan = accepted-plan s e j }
 
 -- a value that fits breaks no rule
 fit-rules : (plan : Plan) → Fit plan → rules plan ≡ Accepted
@@ -58,52 +69,141 @@ unfolding isFit checked accepts
 fit-rules plan h = accepts-accepted (rules plan) (rw (kept-sound plan (h .sound)) at (fits-exactly plan .1 h))
 
 -- the file of a value that fits is accepted
-fit-accepted : (s : List ℕ) (plan : Plan) (names : List (List ℕ)) → FileOf s plan names → Fit plan → readAnswer s ≡ Accepted
+pub fit-accepted : (s : List ℕ) (plan : Plan) (names : List (List ℕ)) → FileOf s plan names → Fit plan → readAnswer s ≡ Accepted
 unfolding readAnswer
 fit-accepted s plan names file h =
     first-accepted (checkBytes s) (rules (planOf s)) (file-accepted s plan names file (h .sound))
-    (ap rules (plan-read s plan names file (h .sound)) ∙ fit-rules plan h)
+    (ap rules (file-plan s plan names file (h .sound)) ∙ fit-rules plan h)
+
+-- an accepted read is of the file of what it hands out
+pub accepted-file : (s : List ℕ) → Bytes s → readPlan s .answer ≡ Accepted → FileOf s (readPlan s .plan) (namesOf s)
+unfolding readPlan readAnswer
+accepted-file s small e =
+    rw (accepted-plan s e) (spelled s small (first-accepted-left (checkBytes s) (rules (planOf s)) e) .0)
 
 -- bytes are accepted with a value exactly when they are its file, with some names, and it fits
 pub accepts-exactly : AcceptsExactly
-unfolding readPlan readAnswer
+unfolding readPlan
 accepts-exactly s small plan = (
-  λ e.
-      let accepted : readAnswer s ≡ Accepted = ap (λ r. r .answer) e in
-      let file = bytes-exactly s small .0 (first-accepted-left (checkBytes s) (rules (planOf s)) accepted) .0 in
-      let fit = fits-exactly (planOf s) .0 (accepted-fits s accepted) in
-      subst (λ p. (names : List (List ℕ)) × FileOf s p names × Fit p) (sym (accepted-plan s accepted) ∙ ap (λ r. r .plan) e)
-      (namesOf s, file, fit),
+  λ h.
+      let e = said-accepted (readAnswer s) (h .0) in
+      subst (λ p. (names : List (List ℕ)) × FileOf s p names × Fit p) (h .1) (namesOf s, accepted-file s small e, accepted-fit s e),
   λ h.
       let (names, file, fit) = h in
-      accepted-read s (fit-accepted s plan names file fit) ∙
-      ap (λ p. record { answer = Accepted; plan = p }) (plan-read s plan names file (fit .sound)),
+      let e = fit-accepted s plan names file fit in
+      (ap said e, accepted-plan s e ∙ file-plan s plan names file (fit .sound)),
 )
+
+-- a refusal of a read is one of the bytes, or else one of the rules, on the sound value whose file they are
+refused-by : (s : List ℕ) → Bytes s → (r k : ℕ) → readAnswer s ≡ Refused r k →
+    (checkBytes s ≡ Refused r k) ⊎ (FileOf s (planOf s) (namesOf s) × Sound (planOf s) × FirstBrokenAt (planOf s) r k)
+unfolding readAnswer
+refused-by s small r k e = go (first-refused (checkBytes s) (rules (planOf s)) r k e)
+  where
+    go : (checkBytes s ≡ Refused r k) ⊎ ((checkBytes s ≡ Accepted) × (rules (planOf s) ≡ Refused r k)) →
+        (checkBytes s ≡ Refused r k) ⊎ (FileOf s (planOf s) (namesOf s) × Sound (planOf s) × FirstBrokenAt (planOf s) r k)
+    go (inl h) = inl h
+    go (inr h) =
+        let (file, sound) = spelled s small (h .0) in
+        inr (file, sound, rules-exactly (planOf s) sound r k .0 (h .1))
+
+-- a refusal of the bytes is the answer of the read
+bytes-say : (s : List ℕ) → Bytes s → (r k : ℕ) → checkBytes s ≡ Refused r k → said (readPlan s .answer) ≡ refused r (at k)
+unfolding readPlan readAnswer
+bytes-say s small r k e =
+    refused-at (readAnswer s) r k (first-first (checkBytes s) (rules (planOf s)) r k e ∙ e) (omega (arith, bytes-refusal s small r k e .2))
+
+-- every refusal has a number from 1 to 14 and a place near the front
+pub refusal-early : (s : List ℕ) → Bytes s → (r k : ℕ) → readPlan s .answer ≡ Refused r k → (1 ≤ r) × (r ≤ 14) × (k < 100000)
+unfolding readPlan
+refusal-early s small r k e = go (refused-by s small r k e)
+  where
+    go : (checkBytes s ≡ Refused r k) ⊎ (FileOf s (planOf s) (namesOf s) × Sound (planOf s) × FirstBrokenAt (planOf s) r k) →
+        (1 ≤ r) × (r ≤ 14) × (k < 100000)
+    go (inl h) =
+        let (least, most, early) = bytes-refusal s small r k h in
+        (least, omega arith, early)
+    go (inr h) =
+        let (least, most, early) = broken-range (planOf s) (h .1) r k (h .2) in
+        (omega arith, most, omega arith)
+
+-- bytes are refused by 1 to 10 exactly when they are the file of no sound value
+pub refuses-by-bytes : RefusesByBytes
+unfolding readPlan
+refuses-by-bytes s small = (
+  λ h file.
+      let (r, k, least, most, e) = h in
+      other file r k most (refused-by s small r k (said-refused (readAnswer s) r (at k) e)),
+  λ no-file. go no-file (checkBytes s) refl,
+)
+  where
+    other : SoundFile s → (r k : ℕ) → r ≤ 10 →
+        (checkBytes s ≡ Refused r k) ⊎ (FileOf s (planOf s) (namesOf s) × Sound (planOf s) × FirstBrokenAt (planOf s) r k) → ⊥
+    other (plan, names, file, sound) r k most (inl h) = let z : _≡_ {A = ℕ} 0 1 = cc (file-accepted s plan names file sound) in omega arith
+    other file r k most (inr h) = omega (arith, broken-range (planOf s) (h .1) r k (h .2) .0)
+
+    go : (SoundFile s → ⊥) → (a : Answer) → checkBytes s ≡ a →
+        (r : ℕ) × (k : ℕ) × (1 ≤ r) × (r ≤ 10) × (said (readPlan s .answer) ≡ refused r (at k))
+    go no-file Accepted e =
+        let (file, sound) = spelled s small e in
+        absurd (no-file (planOf s, namesOf s, file, sound))
+    go no-file (Refused r k) e =
+        let (least, most, early) = bytes-refusal s small r k e in
+        (r, k, least, most, bytes-say s small r k e)
+
+-- bytes are refused by 10 at k exactly when the first k are the file of a sound value, and there are more
+pub left-over-exactly : LeftOverExactly
+unfolding readPlan
+left-over-exactly s small k = (λ e. go (refused-by s small 10 k (said-refused (readAnswer s) 10 (at k) e)), λ h. bytes-say s small 10 k (more h))
+  where
+    go : (checkBytes s ≡ Refused 10 k) ⊎ (FileOf s (planOf s) (namesOf s) × Sound (planOf s) × FirstBrokenAt (planOf s) 10 k) →
+        SoundFile (take k s) × (k < length s)
+    go (inl h) =
+        let (kept, ends, longer) = left-over s small k h in
+        let file = subst (λ n. FileOf (take n s) (planOf s) (namesOf s)) ends (spelled-start s kept small) in
+        ((planOf s, namesOf s, file, sound-kept (planOf s) (spelled-sound s kept)), omega arith)
+    go (inr h) = absurd (omega (arith, broken-range (planOf s) (h .1) 10 k (h .2) .0))
+
+    more : SoundFile (take k s) × (k < length s) → checkBytes s ≡ Refused 10 k
+    more ((plan, names, file, sound), longer) =
+        let begins = part-begins s k plan names (omega arith) file in
+        let ends : endAt s ≡ k = end-read s plan names begins ∙ sym (ap length (file .laid)) ∙ length-take-le k s (omega arith) in
+        bytes-checked s ∙
+        first-second (checkFields s) (checkEnd s) (fields-kept s .1 (begun-kept s plan names begins sound)) ∙ over-refused s k ends longer
 
 -- bytes are refused by 11 to 14 exactly when they are the file of a sound value that breaks that rule first, at that place
 pub refuses-by-rules : RefusesByRules
 unfolding readPlan readAnswer
 refuses-by-rules s small r k least most = (
-  λ e. go (first-refused (checkBytes s) (rules (planOf s)) r k e),
+  λ e. go (refused-by s small r k (said-refused (readAnswer s) r (at k) e)),
   λ h.
       let (plan, names, file, sound, broken) = h in
+      let e =
       first-second (checkBytes s) (rules (planOf s)) (file-accepted s plan names file sound) ∙
-      ap rules (plan-read s plan names file sound) ∙ first-exactly plan sound r k .1 broken,
+      ap rules (file-plan s plan names file sound) ∙ rules-exactly plan sound r k .1 broken in
+      refused-at (readAnswer s) r k e (broken-place plan sound r k broken),
 )
   where
-    go : (checkBytes s ≡ Refused r k) ⊎ ((checkBytes s ≡ Accepted) × (rules (planOf s) ≡ Refused r k)) →
-        (plan : Plan) × (names : List (List ℕ)) × FileOf s plan names × Sound plan ×
-        ((b : Breach) × FirstBroken plan b × (number b ≡ r) × (place b ≡ k))
-    go (inl e) = absurd (omega (arith, bytes-refusal s r k e))
-    go (inr e) =
-        let (file, sound) = bytes-exactly s small .0 (e .0) in
-        (planOf s, namesOf s, file, sound, first-exactly (planOf s) sound r k .0 (e .1))
+    go : (checkBytes s ≡ Refused r k) ⊎ (FileOf s (planOf s) (namesOf s) × Sound (planOf s) × FirstBrokenAt (planOf s) r k) →
+        (plan : Plan) × (names : List (List ℕ)) × FileOf s plan names × Sound plan × FirstBrokenAt plan r k
+    go (inl h) = absurd (omega (arith, bytes-refusal s small r k h .1))
+    go (inr h) = (planOf s, namesOf s, h .0, h .1, h .2)
+
+-- every refusal has a number from 1 to 14, and a place
+pub refuses-at-place : RefusesAtPlace
+refuses-at-place s small r p e = go p e
+  where
+    go : (q : Place) → said (readPlan s .answer) ≡ refused r q → (1 ≤ r) × (r ≤ 14) × ((k : ℕ) × (q ≡ at k))
+    go none h = absurd (omega (arith, refusal-early s small r nowhere (said-refused (readPlan s .answer) r none h) .2))
+    go (at k) h =
+        let (least, most, early) = refusal-early s small r k (said-refused (readPlan s .answer) r (at k) h) in
+        (least, most, (k, refl))
 
 -- a name is handed out as it was laid out
 pub names-placed : NamesPlaced
 unfolding nameOf nameIn planOf
 names-placed s plan names small file h i l =
-    let size : sizeOf s ≡ plan .size = ap (λ p. p .size) (plan-read s plan names file (h .sound)) in
+    let size : sizeOf s ≡ plan .size = ap (λ p. p .size) (file-plan s plan names file (h .sound)) in
     let here : i < sizeOf s = omega (arith, size) in
     rw (sym (accepts-true (readAnswer s) (fit-accepted s plan names file h)), lt-ltb i (sizeOf s) here)
-    (sym (names-at s i here) ∙ ap (λ m. getD m i []) (names-read s plan names file))
+    (sym (names-at s i here) ∙ ap (λ m. getD m i []) (file-names s plan names file))

@@ -1,12 +1,12 @@
 -- The file of a plan value section by section: where each part of `planBytes` is held. Assumes nothing.
-use Prim.Native.Nat.{ℕ, _+_, _*_, _≤_}
+use Prim.Native.Nat.{ℕ, _+_, _*_}
 use mathlib.Core.List.{List, [], _∷_, _++_}
-use mathlib.Core.Path.{_≡_, refl, ap, subst}
+use mathlib.Core.Path.{_≡_, refl}
 use native.Mathlib.Omega.{arith}
 use lib.ListN.{length, length-append}
 use Rattle.plans.specs.declared.Plan.{Plan}
 use Rattle.layout.specs.Layout.{twoBytes, fourBytes, typeBytes, nodeBytes, lays, supplyPart, nodePart, namePart, planBytes}
-use Rattle.layout.proofs.Holds.{Holds, holds-self, holds-all, holds-left, holds-right, holds-join, holds-at, lays-length}
+use Rattle.layout.proofs.Holds.{Holds, holds-left, holds-right, holds-join, holds-at, lays-length}
 
 -- where the nodes' count, the names' count and the first name stand
 abbrev pub sizePlace : Plan → ℕ
@@ -18,7 +18,7 @@ countPlace plan = sizePlace plan + 1 + 10 * plan .size
 abbrev pub namesPlace : Plan → ℕ
 namesPlace plan = countPlace plan + 1
 
--- the parts of a plan file, each at its place, and nothing after them
+-- the parts of a plan file, each at its place; something may follow
 pub record Laid (s : List ℕ) (plan : Plan) (names : List (List ℕ)) : Type 0 where
   pub one : Holds s 0 (1 ∷ [])
   pub p : Holds s 1 (fourBytes (plan .tick .p))
@@ -29,7 +29,6 @@ pub record Laid (s : List ℕ) (plan : Plan) (names : List (List ℕ)) : Type 0 
   pub nodes : Holds s (sizePlace plan + 1) (lays (nodePart plan) (plan .size))
   pub count : Holds s (countPlace plan) (plan .size ∷ [])
   pub named : Holds s (namesPlace plan) (lays (namePart names) (plan .size))
-  pub ends : length s ≤ namesPlace plan + length (lays (namePart names) (plan .size))
 
 -- the supplies take four bytes each
 pub supplies-length : (plan : Plan) (n : ℕ) → length (lays (supplyPart plan) n) ≡ 4 * n
@@ -61,10 +60,10 @@ unfolding planBytes fourBytes twoBytes
 plan-length plan names = simp length-append (omega (arith, supplies-length plan (plan .cores), nodes-length plan (plan .size)))
 
 module _ (s : List ℕ) (plan : Plan) (names : List (List ℕ)) where
-  -- bytes that hold each part at its place, and nothing after them, are the file
-  pub laid-file : Laid s plan names → s ≡ planBytes plan names
+  -- bytes that hold each part at its place begin with the file
+  pub laid-held : Laid s plan names → Holds s 0 (planBytes plan names)
   unfolding planBytes fourBytes twoBytes
-  laid-file h =
+  laid-held h =
       let head = tickBytes plan in
       let supplies = suppliesBytes plan in
       let nodes = nodesBytes plan in
@@ -78,18 +77,16 @@ module _ (s : List ℕ) (plan : Plan) (names : List (List ℕ)) where
       holds-join s 9 supplies (nodes ++ tail) (holds-join s 9 (plan .cores ∷ []) _ (h .cores) (h .supplies))
       (holds-at s _ _ (nodes ++ tail) (omega (arith, supplies-length plan (plan .cores))) third) in
       let first : Holds s 0 head = holds-join s 0 (1 ∷ []) _ (h .one) (holds-join s 1 _ _ (h .p) (h .q)) in
-      holds-all s (planBytes plan names) (holds-join s 0 head (supplies ++ (nodes ++ tail)) first second)
-      (omega (arith, plan-length plan names, h .ends))
+      holds-join s 0 head (supplies ++ (nodes ++ tail)) first second
 
-  -- and the file holds each part at its place, and nothing after them
-  pub file-laid : s ≡ planBytes plan names → Laid s plan names
+  -- and bytes that begin with the file hold each part at its place
+  pub held-laid : Holds s 0 (planBytes plan names) → Laid s plan names
   unfolding planBytes fourBytes twoBytes
-  file-laid e =
+  held-laid whole =
       let head = tickBytes plan in
       let supplies = suppliesBytes plan in
       let nodes = nodesBytes plan in
       let tail = namesBytes plan names in
-      let whole : Holds s 0 (planBytes plan names) = subst (λ x. Holds s 0 x) e (holds-self s) in
       let first = holds-left s 0 head (supplies ++ (nodes ++ tail)) whole in
       let tick = holds-right s 0 (1 ∷ []) (fourBytes (plan .tick .p) ++ fourBytes (plan .tick .q)) first in
       let rest : Holds s 9 (supplies ++ (nodes ++ tail)) = holds-right s 0 head (supplies ++ (nodes ++ tail)) whole in
@@ -110,5 +107,4 @@ module _ (s : List ℕ) (plan : Plan) (names : List (List ℕ)) where
         nodes = holds-right s (sizePlace plan) (plan .size ∷ []) _ third;
         count = holds-left s (countPlace plan) (plan .size ∷ []) _ fourth;
         named = holds-right s (countPlace plan) (plan .size ∷ []) _ fourth;
-        ends = omega (arith, plan-length plan names, ap length e);
       }

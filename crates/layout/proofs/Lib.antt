@@ -9,3 +9,5 @@ pub mod Refusals
 pub mod Reach
 pub mod Longer
 pub mod Kept
+pub mod AreBytes
+pub mod Longest

@@ -22,7 +22,7 @@ use Rattle.reader.specs.Read.{checkPart, checkTick, checkCount, checkSupply, ch
 use Rattle.reader.proofs.Accepts.{name-kept}
 use Rattle.reader.proofs.Spelled.{refused-plan}
 use Rattle.layout.specs.Promises.{LongerAlike}
-use Rattle.layout.proofs.Reach.{few-letters, few-cores, few-nodes, nodes-most, names-most, start-most, bytes-short, longest-plan}
+use Rattle.layout.proofs.Reach.{few-letters, few-cores, few-nodes, nodes-most, names-most, start-most, bytes-short, accepted-short}
 
 -- two files that agree in their first 2,797 bytes
 record Alike (s r : List ℕ) : Type 0 where
@@ -259,7 +259,7 @@ module _ (s r : List ℕ) (h : Alike s r) where
   reading-alike = go (readAnswer s) refl
     where
       go : (a : Answer) → readAnswer s ≡ a → readPlan s ≡ readPlan r
-      go Accepted e = absurd (omega (arith, longest-plan s e, h .left))
+      go Accepted e = absurd (omega (arith, accepted-short s e, h .left))
       go (Refused n k) e =
           λ j.
           record { answer = answer-alike j; plan = (refused-plan s n k e ∙ sym (refused-plan r n k (sym answer-alike ∙ e))) j }

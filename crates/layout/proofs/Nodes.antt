@@ -15,7 +15,7 @@ use Rattle.plans.specs.declared.Node.{Node}
 use Rattle.plans.specs.declared.Plan.{Plan}
 use Rattle.fields.specs.Fields.{byteAt, typeAt}
 use Rattle.decode.specs.Positions.{nodeStart}
-use Rattle.decode.specs.Decode.{kindNamed, parentNamed, isNamed, parentOr, nodeOf}
+use Rattle.decode.specs.Decode.{kindNamed, parentOfByte, canBe, parentNamed, isNamed, parentOr, nodeOf}
 use Rattle.decode.specs.declared.Named.the-variants.{Parent as names, Nothing}
 use Rattle.reader.proofs.Accepts.{NodeKept}
 use Rattle.layout.specs.Layout.{twoBytes, typeBytes, kindByte, parentByte, nodeBytes}
@@ -38,26 +38,39 @@ kind-named AlignedLeaf = refl
 kind-named SlidingLeaf = refl
 kind-named Host = refl
 
--- a byte that names a parent is that of the parent that it names
-pub parent-spelled : (b : ℕ) → isNamed (parentNamed b) ≡ true → parentByte (parentOr (parentNamed b)) ≡ b
-unfolding parentNamed parentByte parentOr isNamed
-parent-spelled b e = go (ltb b 8) (ltb b 128) (ltb b 192) (ltb-false b 128) e
+-- a byte is that of the parent that it names
+parent-byte : (b : ℕ) → parentByte (parentOfByte b) ≡ b
+unfolding parentOfByte parentByte
+parent-byte b = go (ltb b 128) (ltb-false b 128)
   where
-    go : (x y z : Bool) → (y ≡ false → 128 ≤ b) →
-        isNamed (cond x (names (Supply b)) (cond y Nothing (cond z (names (Under (b - 128))) Nothing))) ≡ true →
-        parentByte (parentOr (cond x (names (Supply b)) (cond y Nothing (cond z (names (Under (b - 128))) Nothing)))) ≡ b
-    go true y z high named = refl
-    go false true z high named = cc
-    go false false true high named = omega (arith, high refl)
-    go false false false high named = cc
+    go : (x : Bool) → (x ≡ false → 128 ≤ b) → parentByte (cond x (Supply b) (Under (b - 128))) ≡ b
+    go true high = refl
+    go false high = omega (arith, high refl)
 
--- and the byte of a parent that is allowed names that parent
+-- and so it is where it names one that can be
+pub parent-spelled : (b : ℕ) → isNamed (parentNamed b) ≡ true → parentByte (parentOr (parentNamed b)) ≡ b
+unfolding parentNamed parentOr isNamed
+parent-spelled b e = go (canBe (parentOfByte b)) e
+  where
+    go : (x : Bool) → isNamed (cond x (names (parentOfByte b)) Nothing) ≡ true → parentByte (parentOr (cond x (names (parentOfByte b)) Nothing)) ≡ b
+    go true named = parent-byte b
+    go false named = cc
+
+-- the byte of a supply below 128 names that supply,
+pub byte-supply : (s : ℕ) → s < 128 → parentOfByte (parentByte (Supply s)) ≡ Supply s
+unfolding parentOfByte parentByte
+byte-supply s h = rw (lt-ltb s 128 h)
+
+-- that of a node that node,
+pub byte-node : (h : ℕ) → parentOfByte (parentByte (Under h)) ≡ Under h
+unfolding parentOfByte parentByte
+byte-node h = let same : 128 + h - 128 ≡ h = omega arith in rw (le-ltb (128 + h) 128 (omega arith), same)
+
+-- and so that of a parent that is allowed
 pub parent-named : (plan : Plan) (i : ℕ) (p : Parent) → plan .cores ≤ 8 → i ≤ 64 → Allowed plan i p → parentNamed (parentByte p) ≡ names p
-unfolding parentByte parentNamed
-parent-named plan i p few short (supply {s = n} l) = rw (lt-ltb n 8 (omega arith))
-parent-named plan i p few short (host {h = h} l e) =
-    let at : 128 + h - 128 ≡ h = omega arith in
-    rw (le-ltb (128 + h) 8 (omega arith), le-ltb (128 + h) 128 (omega arith), lt-ltb (128 + h) 192 (omega arith), at)
+unfolding parentNamed canBe
+parent-named plan i p few short (supply {s = n} l) = rw (byte-supply n (omega arith), lt-ltb n 8 (omega arith))
+parent-named plan i p few short (host {h = h} l e) = rw (byte-node h, lt-ltb h 64 (omega arith))
 
 -- ten bytes from its start on hold the node that they spell
 pub node-held : (s : List ℕ) → Bytes s → (i : ℕ) → NodeKept s i → Holds s (nodeStart s i) (nodeBytes (nodeOf s i))

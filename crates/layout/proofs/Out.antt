@@ -1,24 +1,25 @@
--- From accepted checks to the layout: bytes that keep 1 to 10 are the file of the value and the names that they spell. Assumes nothing.
-use Prim.Native.Nat.{ℕ, suc, _+_, _<_}
+-- From accepted checks to the layout: bytes that keep 1 to 9 begin with the file of the value and the names that they spell. Assumes nothing.
+use Prim.Native.Nat.{ℕ, suc, _+_, _≤_, _<_}
 use mathlib.Core.List.{List}
-use mathlib.Core.Path.{_≡_, refl, sym, _∙_}
+use mathlib.Core.Path.{_≡_, refl, sym, ap, subst, _∙_}
 use native.Mathlib.Decide.{decLt}
 use native.Mathlib.Omega.{arith}
-use lib.ListN.{length}
+use lib.ListN.{length, take}
+use lib.Seq.{take-all}
 use Rattle.decode.specs.Positions.{coresOf, supplyStart, nodesAt, sizeOf, nodeStart, namesAt, nameStart, endAt}
 use Rattle.decode.specs.Decode.{supplyOf, planOf}
 use Rattle.decode.proofs.Entries.{supply-spelled, node-spelled, plan-tidy}
-use Rattle.reader.proofs.Accepts.{BytesKept}
+use Rattle.reader.proofs.Accepts.{FieldsKept}
 use Rattle.reader.proofs.Spelled.{eight-cores, sixty-four-nodes}
-use Rattle.layout.specs.Layout.{twoBytes, typeBytes, nodeBytes, nameBytes, supplyPart, nodePart, namePart, SoundNames}
+use Rattle.layout.specs.Layout.{twoBytes, typeBytes, nodeBytes, nameBytes, supplyPart, nodePart, namePart, planBytes, SoundNames}
 use Rattle.layout.specs.Promises.{Bytes, FileOf}
-use Rattle.layout.proofs.Holds.{Holds, holds-at, lays-end, lays-held}
+use Rattle.layout.proofs.Holds.{Holds, holds-part, holds-at, lays-end, lays-held}
 use Rattle.layout.proofs.Numbers.{byte-held, four-held, type-held}
 use Rattle.layout.proofs.Nodes.{node-held}
 use Rattle.layout.proofs.Names.{nameIn, namesOf, names-count, names-at, name-length, name-letter, name-held, equal-same}
-use Rattle.layout.proofs.Laid.{Laid, laid-file}
+use Rattle.layout.proofs.Laid.{Laid, plan-length, laid-held}
 
-module _ (s : List ℕ) (h : BytesKept s) where
+module _ (s : List ℕ) (h : FieldsKept s) where
   -- a later name is no earlier one
   name-differs : (i j : ℕ) → j < i → i < sizeOf s → nameIn s j ≡ nameIn s i → ⊥
   name-differs i j l m e =
@@ -94,10 +95,22 @@ module _ (s : List ℕ) (h : BytesKept s) where
               (lays-held (nodePart (planOf s)) (nodeStart s) s (sizeOf s) (λ i l. node-step i) (omega (arith, h .size .whole)) node-at);
           count = byte-held s (namesAt s) _ (h .count-there) (h .count);
           named = lays-held (namePart (namesOf s)) (nameStart s) s (sizeOf s) name-step (h .count-there) name-at;
-          ends = rw (← (lays-end (namePart (namesOf s)) (nameStart s) (sizeOf s) name-step)) (h .ends);
         }
 
-    -- they are the file of what they spell
-    pub spelled-file : FileOf s (planOf s) (namesOf s)
-    spelled-file =
-        record { tidy = plan-tidy s; named = spelled-named; laid = laid-file s (planOf s) (namesOf s) spelled-laid }
+    -- the file of what they spell ends where their last name does,
+    spelled-length : length (planBytes (planOf s) (namesOf s)) ≡ endAt s
+    unfolding planOf coresOf supplyStart nodesAt sizeOf nodeStart namesAt nameStart endAt
+    spelled-length = plan-length (planOf s) (namesOf s) ∙ sym (lays-end (namePart (namesOf s)) (nameStart s) (sizeOf s) name-step)
+
+    -- and they begin with it
+    pub spelled-start : FileOf (take (endAt s) s) (planOf s) (namesOf s)
+    spelled-start =
+        record {
+          tidy = plan-tidy s;
+          named = spelled-named;
+          laid = ap (λ n. take n s) (sym spelled-length) ∙ holds-part s 0 (planBytes (planOf s) (namesOf s)) (laid-held s _ _ spelled-laid);
+        }
+
+    -- so they are it, where nothing follows
+    pub spelled-file : length s ≤ endAt s → FileOf s (planOf s) (namesOf s)
+    spelled-file ends = subst (λ r. FileOf r (planOf s) (namesOf s)) (take-all (endAt s) s ends) spelled-start

@@ -9,7 +9,7 @@ use lib.ListN.{length}
 use borrow.Author.Tests.{leb-true}
 use Rattle.answers.specs.Answers.{test, each}
 use Rattle.answers.specs.declared.Answer.the-variants.{Accepted}
-use Rattle.answers.proofs.Laws.{first-accepted-left, first-accepted-right, test-accepted, each-accepted}
+use Rattle.answers.proofs.Laws.{said-accepted, first-accepted-left, first-accepted-right, test-accepted, each-accepted}
 use Rattle.rules.specs.Check.{rules}
 use Rattle.decode.specs.Positions.{coresOf, supplyStart, nodesAt, sizeOf, nodeStart, namesAt, nameStart, endAt}
 use Rattle.decode.specs.Decode.{planOf}
@@ -59,11 +59,15 @@ module _ (s : List ℕ) where
   unfolding endAt
   bytes-short e =
       let kept = bytes-kept s .0 e in
-      let size = sixty-four-nodes s kept in
-      let named = each-accepted (checkName s) (sizeOf s) (λ i l. name-kept s i .1 (kept .names i l)) in
-      omega (arith, kept .ends, start-most (eight-cores s kept) size (sizeOf s) named)
+      let size = sixty-four-nodes s (kept .fields) in
+      let named = each-accepted (checkName s) (sizeOf s) (λ i l. name-kept s i .1 (kept .fields .names i l)) in
+      omega (arith, kept .ends, start-most (eight-cores s (kept .fields)) size (sizeOf s) named)
 
 -- and so has one that is accepted
-pub longest-plan : LongestPlan
+pub accepted-short : (s : List ℕ) → readPlan s .answer ≡ Accepted → length s ≤ 2796
 unfolding readPlan readAnswer
-longest-plan s e = bytes-short s (first-accepted-left (checkBytes s) (rules (planOf s)) e)
+accepted-short s e = bytes-short s (first-accepted-left (checkBytes s) (rules (planOf s)) e)
+
+-- the longest plan has 2,796 bytes
+pub longest-plan : LongestPlan
+longest-plan s e = accepted-short s (said-accepted (readPlan s .answer) e)

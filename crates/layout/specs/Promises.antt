@@ -5,15 +5,13 @@ use mathlib.Core.List.{List, []}
 use mathlib.Core.Logic.{_↔_}
 use mathlib.Core.Path.{_≡_}
 use lib.ListN.{length, getD, take}
-use Rattle.answers.specs.declared.Answer.{Answer}
-use Rattle.answers.specs.declared.Answer.the-variants.{Accepted, Refused}
+use Rattle.answers.specs.Answers.{Place, at, accepted, refused, said}
 use Rattle.plans.specs.Plan.{There, Tidy}
 use Rattle.plans.specs.Sound.{Sound}
 use Rattle.plans.specs.declared.Plan.{Plan}
 use Rattle.rules.specs.Fit.{Fit}
-use Rattle.rules.specs.Broken.{Breach, FirstBroken, number, place}
+use Rattle.rules.specs.Broken.{FirstBrokenAt}
 use Rattle.reader.specs.Read.{readPlan, nameOf}
-use Rattle.reader.specs.declared.Reading.{Reading}
 use Rattle.layout.specs.Layout.{planBytes, SoundNames}
 
 -- a list of bytes
@@ -26,25 +24,49 @@ pub record FileOf (s : List ℕ) (plan : Plan) (names : List (List ℕ)) : Type 
   pub named : SoundNames plan names
   pub laid : s ≡ planBytes plan names
 
+-- s is the file of some sound value, with sound names
+abbrev pub SoundFile : List ℕ → Type 0
+SoundFile s = (plan : Plan) × (names : List (List ℕ)) × FileOf s plan names × Sound plan
+
 -- The reader accepts bytes with value p exactly when they are the file of p with some names, and p fits.
 abbrev pub AcceptsExactly : Type 0
 AcceptsExactly =
     (s : List ℕ) → Bytes s → (plan : Plan) →
-    (readPlan s ≡ record { answer = Accepted; plan = plan }) ↔ ((names : List (List ℕ)) × FileOf s plan names × Fit plan)
+    ((said (readPlan s .answer) ≡ accepted) × (readPlan s .plan ≡ plan)) ↔ ((names : List (List ℕ)) × FileOf s plan names × Fit plan)
+
+-- Refusals 1 to 10 are given exactly when the bytes are the file of no sound value with sound names.
+abbrev pub RefusesByBytes : Type 0
+RefusesByBytes =
+    (s : List ℕ) → Bytes s →
+    ((r : ℕ) × (k : ℕ) × (1 ≤ r) × (r ≤ 10) × (said (readPlan s .answer) ≡ refused r (at k))) ↔ (SoundFile s → ⊥)
+
+-- 01, refusal 10: "bytes left over: first of them": given at k exactly when the first k bytes are such a file, and there are more.
+abbrev pub LeftOverExactly : Type 0
+LeftOverExactly =
+    (s : List ℕ) → Bytes s → (k : ℕ) → (said (readPlan s .answer) ≡ refused 10 (at k)) ↔ (SoundFile (take k s) × (k < length s))
 
 -- Refusals 11 to 14 are given exactly when the bytes are the file of a sound value, and that rule is the first broken one, at that place.
 abbrev pub RefusesByRules : Type 0
 RefusesByRules =
     (s : List ℕ) → Bytes s → (r k : ℕ) → 11 ≤ r → r ≤ 14 →
-    (readPlan s .answer ≡ Refused r k) ↔
-    ((plan : Plan) × (names : List (List ℕ)) × FileOf s plan names × Sound plan ×
-    ((b : Breach) × FirstBroken plan b × (number b ≡ r) × (place b ≡ k)))
+    (said (readPlan s .answer) ≡ refused r (at k)) ↔
+    ((plan : Plan) × (names : List (List ℕ)) × FileOf s plan names × Sound plan × FirstBrokenAt plan r k)
+
+-- Every refusal of a read has a number from 1 to 14, and a place.
+abbrev pub RefusesAtPlace : Type 0
+RefusesAtPlace =
+    (s : List ℕ) → Bytes s → (r : ℕ) (p : Place) → said (readPlan s .answer) ≡ refused r p →
+    (1 ≤ r) × (r ≤ 14) × ((k : ℕ) × (p ≡ at k))
 
 -- A file has one reading.
 abbrev pub OneReading : Type 0
 OneReading =
     (s : List ℕ) (a b : Plan) (m n : List (List ℕ)) → Bytes s → FileOf s a m → Sound a → FileOf s b n → Sound b →
     (a ≡ b) × (m ≡ n)
+
+-- The file of a sound value is a list of bytes.
+abbrev pub FilesAreBytes : Type 0
+FilesAreBytes = (s : List ℕ) (plan : Plan) (names : List (List ℕ)) → FileOf s plan names → Sound plan → Bytes s
 
 -- A name that is handed out is the one that planBytes placed.
 abbrev pub NamesPlaced : Type 0
@@ -54,7 +76,7 @@ NamesPlaced =
 
 -- 01: "The longest plan has 2,796 bytes"
 abbrev pub LongestPlan : Type 0
-LongestPlan = (s : List ℕ) → readPlan s .answer ≡ Accepted → length s ≤ 2796
+LongestPlan = (s : List ℕ) → said (readPlan s .answer) ≡ accepted → length s ≤ 2796
 
 -- A longer file is answered by its first part: what stands beyond byte 2,797 changes nothing.
 abbrev pub LongerAlike : Type 0

@@ -12,7 +12,7 @@ use Rattle.plans.proofs.Parents.{node-depth}
 use Rattle.plans.specs.Sound.{Depth, top, under}
 use Rattle.plans.specs.declared.Plan.{Plan}
 use Rattle.reader.specs.Read.{readPlan}
-use Rattle.layout.proofs.Reach.{longest-plan}
+use Rattle.layout.proofs.Reach.{accepted-short}
 use Rattle.layout.proofs.Longer.{longer-alike}
 use Rattle.listing.proofs.Texts.{text-most}
 use Rattle.listing.specs.Promises.{Suffices, DepthPrinted, OneListing, LongerListed}
@@ -54,5 +54,5 @@ pub longer-listed : LongerListed
 longer-listed s n l = go (readPlan s .answer) refl
   where
     go : (a : Answer) → readPlan s .answer ≡ a → text (take n s) ≡ text s
-    go Accepted e = ap text (take-all n s (omega (arith, longest-plan s e)))
+    go Accepted e = ap text (take-all n s (omega (arith, accepted-short s e)))
     go (Refused r k) e = refused-text (take n s) r k (ap (λ x. x .answer) (longer-alike s n l) ∙ e) ∙ sym (refused-text s r k e)

@@ -15,10 +15,11 @@ use Rattle.answers.specs.declared.Answer.the-variants.{Accepted, Refused}
 use Rattle.plans.specs.declared.Plan.{Plan}
 use Rattle.rules.proofs.Kept.{fits-exactly}
 use Rattle.rules.specs.Check.{isFit}
-use Rattle.reader.proofs.Kept.{hands-out-fit}
+use Rattle.reader.proofs.Kept.{accepted-fit}
 use Rattle.reader.specs.Read.{readPlan, nameOf}
 use Rattle.reader.specs.declared.Reading.{Reading}
-use Rattle.layout.proofs.Kept.{accepts-exactly, names-placed}
+use Rattle.layout.proofs.Kept.{accepted-file, names-placed}
+use Rattle.layout.proofs.Names.{namesOf}
 use Rattle.layout.specs.Promises.{Bytes}
 use Rattle.listing.proofs.Pages.{put-then, room-first, room-then}
 use Rattle.listing.proofs.Sizes.{accepted-most, refused-most}
@@ -100,10 +101,8 @@ module _ (s : List ℕ) (plan : Plan) where
 -- A plan's names have 32 bytes at most, where its bytes are bytes and it is accepted.
 names-short : (s : List ℕ) → Bytes s → readPlan s .answer ≡ Accepted → (i : ℕ) → i < readPlan s .plan .size → length (nameOf s i) ≤ 32
 names-short s bytes e i l =
-    let plan = readPlan s .plan in
-    let read : readPlan s ≡ record { answer = Accepted; plan = plan } = ap (λ a. record { answer = a; plan = plan }) e in
-    let (names, file, fit) = accepts-exactly s bytes plan .0 read in
-    rw (names-placed s plan names bytes file fit i l) (file .named .short i l)
+    let file = accepted-file s bytes e in
+    rw (names-placed s (readPlan s .plan) (namesOf s) bytes file (accepted-fit s e) i l) (file .named .short i l)
 
 -- 3,708 bytes always suffice
 pub text-most : (s : List ℕ) → Bytes s → length (text s) ≤ 3708
@@ -111,14 +110,14 @@ unfolding text
 text-most s bytes = go (readPlan s .answer) refl
   where
     go : (a : Answer) → readPlan s .answer ≡ a → length (textBy s (readPlan s .plan) a) ≤ 3708
-    go Accepted e = accepted-most s (readPlan s .plan) (hands-out-fit s e .sound) (names-short s bytes e)
+    go Accepted e = accepted-most s (readPlan s .plan) (accepted-fit s e .sound) (names-short s bytes e)
     go (Refused r k) e = omega (arith, refused-most r k)
 
 -- The text of a plan whose reading is r.
 module _ (s : List ℕ) (r : Reading) (read : r ≡ readPlan s) where
   -- an accepted plan fits,
   pub accepted-fits : r .answer ≡ Accepted → isFit (r .plan) ≡ true
-  accepted-fits e = fits-exactly (r .plan) .1 (rw (sym read) at (hands-out-fit s (rw read at e)))
+  accepted-fits e = fits-exactly (r .plan) .1 (rw (sym read) at (accepted-fit s (rw read at e)))
 
   text-by : text s ≡ textBy s (r .plan) (r .answer)
   unfolding text

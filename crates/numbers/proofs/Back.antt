@@ -1,11 +1,11 @@
 -- Reading back what was laid out: types, parents and nodes, and where they stand among the numbers of a plan. Assumes nothing.
-use Prim.Native.Nat.{ℕ, _+_, _-_, _*_, _≤_, _<_}
+use Prim.Native.Nat.{ℕ, _+_, _*_, _≤_, _<_}
 use mathlib.Core.Bool.{true}
 use mathlib.Core.List.{List, [], _∷_, _++_}
 use mathlib.Core.Path.{_≡_, refl}
 use native.Mathlib.Omega.{arith}
 use lib.ListN.{length, getD}
-use borrow.Author.Tests.{lt-ltb, le-ltb, le-leb}
+use borrow.Author.Tests.{le-leb}
 use Rattle.meaning.specs.declared.SlotType.{SlotType}
 use Rattle.plans.specs.Plan.{zeroType, zeroNode}
 use Rattle.plans.specs.declared.Parent.{Parent}
@@ -13,10 +13,11 @@ use Rattle.plans.specs.declared.Parent.the-variants.{Supply, Node as Under}
 use Rattle.plans.specs.declared.Node.{Node}
 use Rattle.plans.specs.declared.Plan.{Plan}
 use Rattle.fields.specs.Fields.{byteAt}
+use Rattle.decode.specs.Decode.{parentOfByte}
 use Rattle.layout.specs.Layout.{kindByte, parentByte, lays}
 use Rattle.layout.proofs.Holds.{Holds, holds-self, holds-left, holds-right, holds-at, lays-part}
 use Rattle.layout.proofs.Numbers.{byte-read, rest-held}
-use Rattle.layout.proofs.Nodes.{kind-named}
+use Rattle.layout.proofs.Nodes.{kind-named, byte-supply, byte-node}
 use Rattle.layout.proofs.Back.{kind-small}
 use Rattle.numbers.specs.Numbers.{
   typeNumbers,
@@ -26,7 +27,6 @@ use Rattle.numbers.specs.Numbers.{
   planNumbers,
   supplyPlace,
   nodePlace,
-  parentNumbered,
   typeFrom,
   nodeFrom,
   isType,
@@ -62,10 +62,9 @@ module _ (s : List ℕ) (k : ℕ) (a : SlotType) (h : Holds s k (typeNumbers a))
   type-fit small = rw (count-read, period-read, le-leb (a .c) 65535 (omega (arith, small .c)), le-leb (a .t) 65535 (omega (arith, small .t)))
 
 -- a parent
-pub parent-back : (x : Parent) → Nameable x → parentNumbered (parentByte x) ≡ x
-unfolding parentNumbered parentByte
-parent-back (Supply s) h = rw (lt-ltb s 128 h)
-parent-back (Under n) h = let same : 128 + n - 128 ≡ n = omega arith in rw (le-ltb (128 + n) 128 (omega arith), same)
+pub parent-back : (x : Parent) → Nameable x → parentOfByte (parentByte x) ≡ x
+parent-back (Supply s) h = byte-supply s h
+parent-back (Under n) h = byte-node n
 
 parent-small : (x : Parent) → Nameable x → parentByte x ≤ 255
 unfolding parentByte

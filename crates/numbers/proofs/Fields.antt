@@ -18,7 +18,7 @@ use Rattle.plans.specs.declared.Parent.the-variants.{Supply, Node as Under}
 use Rattle.plans.specs.declared.Node.{Node}
 use Rattle.plans.specs.declared.Plan.{Plan}
 use Rattle.plans.proofs.All.{left-true, right-true, all-true-at}
-use Rattle.decode.specs.Decode.{kindNamed, filled}
+use Rattle.decode.specs.Decode.{kindNamed, parentOfByte, filled}
 use Rattle.numbers.specs.Numbers.{
   isType,
   isNode,
@@ -27,7 +27,6 @@ use Rattle.numbers.specs.Numbers.{
   isPlan,
   supplyPlace,
   nodePlace,
-  parentNumbered,
   typeFrom,
   nodeFrom,
   supplyIn,
@@ -38,13 +37,13 @@ use Rattle.numbers.specs.Numbers.{
 
 module _ (b : ℕ) where
   -- a parent number below 128 is a supply's
-  pub supply-numbered : b < 128 → Supply b ≡ parentNumbered b
-  unfolding parentNumbered
+  pub supply-numbered : b < 128 → Supply b ≡ parentOfByte b
+  unfolding parentOfByte
   supply-numbered h = rw (lt-ltb b 128 h)
 
   -- and any other a node's
-  pub node-numbered : 128 ≤ b → Under (b - 128) ≡ parentNumbered b
-  unfolding parentNumbered
+  pub node-numbered : 128 ≤ b → Under (b - 128) ≡ parentOfByte b
+  unfolding parentOfByte
   node-numbered h = rw (le-ltb b 128 h)
 
 -- whether numbers are within a node's fields: its kind's and its parent's, and those of its two types
@@ -55,7 +54,7 @@ module _ (xs : List ℕ) (k : ℕ) where
   node-tests r a d e named b c types wanted served = rw (e, named, types, wanted, served)
 
   -- what the numbers of a node say
-  pub node-said : (kind : NodeKind) → kind ≡ kindNamed (getD xs k 0) → (parent : Parent) → parent ≡ parentNumbered (getD xs (k + 1) 0) →
+  pub node-said : (kind : NodeKind) → kind ≡ kindNamed (getD xs k 0) → (parent : Parent) → parent ≡ parentOfByte (getD xs (k + 1) 0) →
       (wanted served : SlotType) → wanted ≡ typeFrom xs (k + 2) → served ≡ typeFrom xs (k + 4) →
       record { kind = kind; parent = parent; wanted = wanted; served = served } ≡ nodeFrom xs k
   unfolding nodeFrom

@@ -1,17 +1,15 @@
 -- How a plan value lies in 404 numbers and a state in 65: include/mettulos.h. Past the end of the numbers everything reads as 0. Assumes nothing.
-use Prim.Native.Nat.{ℕ, _+_, _-_, _*_}
+use Prim.Native.Nat.{ℕ, _+_, _*_}
 use mathlib.Core.Bool.{Bool, true, false, cond, _&&_}
 use mathlib.Core.List.{List, [], _∷_, _++_}
-use lib.Dec.{leb, ltb, eqb}
+use lib.Dec.{leb, eqb}
 use lib.ListN.{length, getD, replicate}
 use Rattle.meaning.specs.declared.SlotType.{SlotType}
 use Rattle.plans.specs.Plan.{zeroType, zeroNode, zeroPlan}
 use Rattle.plans.specs.Sound.{all}
-use Rattle.plans.specs.declared.Parent.{Parent}
-use Rattle.plans.specs.declared.Parent.the-variants.{Supply, Node as Under}
 use Rattle.plans.specs.declared.Node.{Node}
 use Rattle.plans.specs.declared.Plan.{Plan}
-use Rattle.decode.specs.Decode.{kindNamed, filled}
+use Rattle.decode.specs.Decode.{kindNamed, parentOfByte, filled}
 use Rattle.layout.specs.Layout.{kindByte, parentByte, lays}
 use Rattle.dispatch.specs.Run.{Standing, zeroState}
 
@@ -42,10 +40,6 @@ supplyPlace i = 3 + 2 * i
 unfoldable pub nodePlace : ℕ → ℕ
 nodePlace i = 20 + 6 * i
 
--- 01: "A parent byte below 128 names a supply, and 128 and up names node (byte − 128)"; whether the parent is there is not asked here
-unfoldable pub parentNumbered : ℕ → Parent
-parentNumbered b = cond (ltb b 128) (Supply b) (Under (b - 128))
-
 -- the type and the node that begin at k
 unfoldable pub typeFrom : List ℕ → ℕ → SlotType
 typeFrom xs k = record { c = getD xs k 0; t = getD xs (k + 1) 0 }
@@ -54,7 +48,7 @@ unfoldable pub nodeFrom : List ℕ → ℕ → Node
 nodeFrom xs k =
     record {
       kind = kindNamed (getD xs k 0);
-      parent = parentNumbered (getD xs (k + 1) 0);
+      parent = parentOfByte (getD xs (k + 1) 0);
       wanted = typeFrom xs (k + 2);
       served = typeFrom xs (k + 4);
     }

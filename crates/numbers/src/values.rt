@@ -5,8 +5,8 @@ ghost use Prim.Native.Nat.{_+_, _≤_};
 ghost use lib.ListN.{length, replicate};
 ghost use Rattle.plans.specs.Plan.{zeroType, zeroNode};
 ghost use Rattle.plans.specs.Sound.{all};
-ghost use Rattle.decode.specs.Decode.{kindNamed, filled};
-ghost use Rattle.numbers.specs.Numbers.{isType, isNode, isSupplyAt, isNodeAt, isPlan, parentNumbered, typeFrom, nodeFrom, supplyIn, nodeIn, planIn};
+ghost use Rattle.decode.specs.Decode.{kindNamed, parentOfByte, filled};
+ghost use Rattle.numbers.specs.Numbers.{isType, isNode, isSupplyAt, isNodeAt, isPlan, typeFrom, nodeFrom, supplyIn, nodeIn, planIn};
 use meaning::SlotType;
 use plans::Node;
 use plans::NodeKind;
@@ -156,7 +156,7 @@ fn kind_of(b: u32) -> NodeKind
 
 fn parent_of(b: u32) -> plans::Parent
     requires { ⌜ b ≤ 255 ⌝ }
-    ensures { λ r. ⌜ r ≡ parentNumbered b ⌝ }
+    ensures { λ r. ⌜ r ≡ parentOfByte b ⌝ }
 {
     if b < 128 {
         plans::Parent::Supply(b as u8)

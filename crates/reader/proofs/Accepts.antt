@@ -3,7 +3,7 @@ use Prim.Native.Nat.{ℕ, _+_, _-_, _≤_, _<_}
 use mathlib.Core.Bool.{Bool, true, false, not, and-eq-true-iff}
 use mathlib.Core.List.{List}
 use mathlib.Core.Logic.{_↔_}
-use mathlib.Core.Path.{_≡_, ap}
+use mathlib.Core.Path.{_≡_, sym, ap, _∙_}
 use native.Mathlib.Omega.{arith}
 use lib.Dec.{leb, eqb}
 use lib.ListN.{length}
@@ -13,7 +13,7 @@ use Rattle.meaning.specs.Types.{wellFormed}
 use Rattle.answers.specs.Answers.{first, test, each}
 use Rattle.answers.specs.declared.Answer.{Answer}
 use Rattle.answers.specs.declared.Answer.the-variants.{Accepted}
-use Rattle.answers.proofs.Laws.{first-accepted, first-accepted-left, first-accepted-right, test-true, test-accepted, each-accepted, each-accepted-at}
+use Rattle.answers.proofs.Laws.{first-assoc, first-accepted, first-accepted-left, first-accepted-right, test-true, test-accepted, each-accepted, each-accepted-at}
 use Rattle.plans.specs.Sound.{all, counts, parentAllowed, within}
 use Rattle.plans.proofs.All.{all-true, all-true-at}
 use Rattle.fields.specs.Fields.{byteAt, fourAt, typeAt, there, checkType}
@@ -81,8 +81,8 @@ pub record NameKept (s : List ℕ) (i : ℕ) : Type 0 where
       (33 ≤ byteAt s (nameStart s i + 1 + j)) × (byteAt s (nameStart s i + 1 + j) ≤ 126)
   pub new : (j : ℕ) → j < i → sameName s (nameStart s j) (nameStart s i) ≡ false
 
--- bytes that keep 1 to 10
-pub record BytesKept (s : List ℕ) : Type 0 where
+-- bytes that keep 1 to 9
+pub record FieldsKept (s : List ℕ) : Type 0 where
   pub one : byteAt s 0 ≡ 1
   pub p : PartKept s 1
   pub q : PartKept s 5
@@ -93,7 +93,15 @@ pub record BytesKept (s : List ℕ) : Type 0 where
   pub count-there : namesAt s + 1 ≤ length s
   pub count : byteAt s (namesAt s) ≡ sizeOf s
   pub names : (i : ℕ) → i < sizeOf s → NameKept s i
+
+-- bytes that keep 1 to 10
+pub record BytesKept (s : List ℕ) : Type 0 where
+  pub fields : FieldsKept s
   pub ends : length s ≤ endAt s
+
+-- the checks of the bytes before that of what follows the last name
+abbrev pub checkFields : List ℕ → Answer
+checkFields s = first (checkTick s) (first (checkSupplies s) (first (checkNodes s) (checkNames s)))
 
 module _ (s : List ℕ) where
   -- a type is accepted exactly when it is there and well formed
@@ -161,10 +169,15 @@ module _ (s : List ℕ) where
         (omega (arith, h .whole), ((h .some, h .short), (λ j l. (omega (arith, h .whole), h .letters j l), h .new))),
   )
 
-  -- no check of the bytes refuses exactly when they keep 1 to 10
-  pub bytes-kept : (checkBytes s ≡ Accepted) ↔ BytesKept s
-  unfolding checkBytes checkTick checkSupplies checkSupply checkNodes checkNames checkEnd there coresOf
-  bytes-kept = (
+  -- the bytes are checked by their fields, and then for what follows
+  pub bytes-checked : checkBytes s ≡ first (checkFields s) (checkEnd s)
+  unfolding checkBytes
+  bytes-checked = simp first-assoc
+
+  -- no check of a field refuses exactly when the bytes keep 1 to 9
+  pub fields-kept : (checkFields s ≡ Accepted) ↔ FieldsKept s
+  unfolding checkTick checkSupplies checkSupply checkNodes checkNames there coresOf
+  fields-kept = (
     λ e.
         let h = simp (sentences, part-kept, count-kept, type-kept, node-kept, name-kept) at e in
         record {
@@ -175,17 +188,27 @@ module _ (s : List ℕ) where
           supplies = h .1 .0 .1;
           size = h .1 .1 .0 .0;
           nodes = h .1 .1 .0 .1;
-          count-there = h .1 .1 .1 .0 .0;
-          count = h .1 .1 .1 .0 .1 .0;
-          names = h .1 .1 .1 .0 .1 .1;
-          ends = h .1 .1 .1 .1;
+          count-there = h .1 .1 .1 .0;
+          count = h .1 .1 .1 .1 .0;
+          names = h .1 .1 .1 .1 .1;
         },
     λ h.
         simp (sentences, part-kept, count-kept, type-kept, node-kept, name-kept) (
           (omega (arith, h .cores .whole), (h .one, (h .p, h .q))),
-          (
-            (h .cores, h .supplies),
-            ((h .size, h .nodes), ((h .count-there, (h .count, h .names)), h .ends)),
-          ),
+          ((h .cores, h .supplies), ((h .size, h .nodes), (h .count-there, (h .count, h .names)))),
         ),
+  )
+
+  -- nothing follows exactly when the bytes end where the last name does
+  pub end-kept : (checkEnd s ≡ Accepted) ↔ (length s ≤ endAt s)
+  unfolding checkEnd
+  end-kept = (λ e. simp sentences at e, λ h. simp sentences h)
+
+  -- no check of the bytes refuses exactly when they keep 1 to 10
+  pub bytes-kept : (checkBytes s ≡ Accepted) ↔ BytesKept s
+  bytes-kept = (
+    λ e.
+        let both = first-iff (checkFields s) (checkEnd s) .0 (sym bytes-checked ∙ e) in
+        record { fields = fields-kept .0 (both .0); ends = end-kept .0 (both .1) },
+    λ h. bytes-checked ∙ first-accepted (checkFields s) (checkEnd s) (fields-kept .1 (h .fields)) (end-kept .1 (h .ends)),
   )

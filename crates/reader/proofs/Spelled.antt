@@ -1,4 +1,4 @@
--- Bytes that keep 1 to 10 spell a sound plan value; what an accepted read and a refused one hand out. Assumes nothing.
+-- Bytes that keep 1 to 9 spell a sound plan value; what an accepted read and a refused one hand out. Assumes nothing.
 use Prim.Native.Nat.{ℕ, _≤_, _<_}
 use mathlib.Core.Bool.{true}
 use mathlib.Core.List.{List}
@@ -17,10 +17,10 @@ use Rattle.decode.specs.Positions.{coresOf, sizeOf}
 use Rattle.decode.specs.Decode.{supplyOf, nodeOf, planOf}
 use Rattle.decode.proofs.Entries.{supply-spelled, node-spelled}
 use Rattle.reader.specs.Read.{checkBytes, readAnswer, readPlan}
-use Rattle.reader.proofs.Accepts.{BytesKept, bytes-kept}
+use Rattle.reader.proofs.Accepts.{FieldsKept, bytes-kept}
 
-module _ (s : List ℕ) (h : BytesKept s) where
-  -- the counts of bytes that keep 1 to 10
+module _ (s : List ℕ) (h : FieldsKept s) where
+  -- the counts of bytes that keep 1 to 9
   pub some-core : 1 ≤ coresOf s
   unfolding coresOf
   some-core = h .cores .some
@@ -50,7 +50,7 @@ module _ (s : List ℕ) (h : BytesKept s) where
       let kept = h .nodes i l in
       rw (kept .allowed, kept .shallow, ap (λ n. wellFormed (n .wanted)) at ∙ kept .wanted, ap (λ n. wellFormed (n .served)) at ∙ kept .served)
 
-  -- bytes that keep 1 to 10 spell a sound value
+  -- bytes that keep 1 to 9 spell a sound value
   pub spelled-sound : sound (planOf s) ≡ true
   unfolding sound planOf isFitTick
   spelled-sound =
@@ -68,7 +68,7 @@ pub accepted-fits : (s : List ℕ) → readAnswer s ≡ Accepted → isFit (plan
 unfolding readAnswer isFit checked
 accepted-fits s e =
     let kept = bytes-kept s .0 (first-accepted-left (checkBytes s) (rules (planOf s)) e) in
-    rw (spelled-sound s kept, first-accepted-right (checkBytes s) (rules (planOf s)) e) (sym (accepts-true Accepted refl))
+    rw (spelled-sound s (kept .fields), first-accepted-right (checkBytes s) (rules (planOf s)) e) (sym (accepts-true Accepted refl))
 
 module _ (s : List ℕ) where
   -- an accepted read hands out the value that the bytes spell

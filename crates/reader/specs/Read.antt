@@ -74,3 +74,7 @@ readPlan s = record { answer = readAnswer s; plan = cond (accepts (readAnswer s)
 unfoldable pub nameOf : List ℕ → ℕ → List ℕ
 nameOf s i =
     cond (accepts (readAnswer s) && ltb i (sizeOf s)) (take (byteAt s (nameStart s i)) (drop (nameStart s i + 1) s)) []
+
+-- where that part begins: after the name's length byte, and an empty part at the front
+unfoldable pub namePlace : List ℕ → ℕ → ℕ
+namePlace s i = cond (accepts (readAnswer s) && ltb i (sizeOf s)) (nameStart s i + 1) 0

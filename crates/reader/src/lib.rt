@@ -1,7 +1,8 @@
 // Plan bytes of any length and content to an answer and a plan value: document 01, "The plan file" and "Refusal numbers". The bytes are checked
 // from the front, each field when it has been read, and then the rules. specs/Read.antt says it field by field.
 ghost use mathlib.Core.Path.{_≡_};
-ghost use Rattle.reader.specs.Read.{checkBytes, readPlan, nameOf};
+ghost use Rattle.reader.specs.Read.{checkBytes, readPlan, nameOf, namePlace};
+ghost use Rattle.reader.specs.Part.{PartAt};
 
 mod nodes;
 mod supplies;
@@ -37,7 +38,7 @@ pub fn read(s: &[u8]) -> Reading
 
 // The very part of the bytes that holds the name of node i; an empty part for a refused plan or a node not there.
 pub fn name(s: &[u8], i: usize) -> &[u8]
-    ensures { λ r. ⌜ now r ≡ nameOf (now (s .entry)) i ⌝ }
+    ensures { λ r. ⌜ PartAt (s .entry) r (namePlace (now (s .entry)) i) (nameOf (now (s .entry)) i) ⌝ }
 {
     let reading = read(s);
     let answer = reading.answer;

@@ -58,3 +58,7 @@ Earlier (a ∷ more) (b ∷ rest) = (a < b) ⊎ ((a ≡ b) × Earlier more rest)
 pub record FirstBroken (plan : Plan) (b : Breach) : Type 0 where
   pub broken : Broken plan b
   pub none-earlier : (a : Breach) → Earlier (rank a) (rank b) → Broken plan a → ⊥
+
+-- rule r is the first broken one, at node k
+abbrev pub FirstBrokenAt : Plan → ℕ → ℕ → Type 0
+FirstBrokenAt plan r k = (b : Breach) × FirstBroken plan b × (number b ≡ r) × (place b ≡ k)

@@ -1,6 +1,6 @@
 -- `reader::name` meets its contract: one law a return, and the part ends within the bytes. Assumes nothing.
 use borrow.Author.Needs.{needs}
-use Rattle.reader.proofs.Handed.{name-refused, name-past, name-ends, name-part}
+use Rattle.reader.proofs.Handed.{name-refused, place-refused, name-past, place-past, name-ends, name-part, place-part}
 use Rattle.reader.proofs.name.Statement.{statement}
 use Rattle.reader.proofs.name.Tie as tie
 
@@ -17,7 +17,7 @@ slice-aggregate-result : tie.Need-slice-aggregate-result
 slice-aggregate-result c = search needs
 
 returns : tie.Need-returns
-returns c = search name-refused
+returns c = record { block = search needs; offset = search place-refused; holds = search name-refused }
 
 size-of-requires : tie.Need-size-of-requires
 size-of-requires c κs = search needs
@@ -26,7 +26,7 @@ slice-aggregate-result-2 : tie.Need-slice-aggregate-result-2
 slice-aggregate-result-2 c = search needs
 
 returns-2 : tie.Need-returns-2
-returns-2 c = search name-past
+returns-2 c = record { block = search needs; offset = search place-past; holds = search name-past }
 
 start-of-requires : tie.Need-start-of-requires
 start-of-requires c κs = search needs
@@ -56,7 +56,7 @@ part-result-end : tie.Need-part-result-end
 part-result-end c = search name-ends
 
 returns-3 : tie.Need-returns-3
-returns-3 c = search name-part
+returns-3 c = record { block = search needs; offset = search place-part; holds = search name-part }
 
 pub name-spec : {M : Type 1} → statement M
 name-spec =

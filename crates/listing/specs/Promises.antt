@@ -3,11 +3,13 @@ use Prim.Native.Nat.{ℕ, _≤_}
 use mathlib.Core.List.{List}
 use mathlib.Core.Path.{_≡_}
 use lib.ListN.{length, take}
-use Rattle.plans.specs.Plan.{There}
+use Rattle.meaning.specs.declared.Kind.the-variants.{Aligned}
+use Rattle.types.specs.Promises.{LeastOf}
+use Rattle.plans.specs.Plan.{There, kindOf, wantedOf, servedOf, wantedAs}
 use Rattle.plans.specs.Sound.{Sound, Depth}
 use Rattle.plans.specs.declared.Plan.{Plan}
 use Rattle.layout.specs.Promises.{Bytes}
-use Rattle.listing.specs.Text.{depthOf, text, said}
+use Rattle.listing.specs.Text.{depthOf, leastOf, text, said}
 use Rattle.listing.specs.declared.Listed.{Listed}
 
 -- 3,708 bytes always suffice
@@ -17,6 +19,13 @@ Suffices = (s : List ℕ) → Bytes s → length (text s) ≤ 3708
 -- the depth that is printed is the node's depth
 abbrev pub DepthPrinted : Type 0
 DepthPrinted = (plan : Plan) → Sound plan → (i : ℕ) → There plan i → Depth plan i (depthOf plan i)
+
+-- 01: "least ones in a wanted window": the number that is printed is the least that an allocation honouring the served type, aligned, can have in a window of
+-- the wanted type
+abbrev pub LeastPrinted : Type 0
+LeastPrinted =
+    (plan : Plan) → Sound plan → (i : ℕ) → There plan i →
+    LeastOf Aligned (servedOf plan i) (wantedAs (kindOf plan i)) (wantedOf plan i) (leastOf plan i)
 
 -- two answers that say the same are the same
 abbrev pub OneListing : Type 0

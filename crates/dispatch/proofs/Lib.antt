@@ -10,3 +10,4 @@ pub mod Walking
 pub mod Refusals
 pub mod Copying
 pub mod Running
+pub mod Ready

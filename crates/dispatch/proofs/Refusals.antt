@@ -136,7 +136,7 @@ Refusal o = OneOf (1 ∷ 2 ∷ 3 ∷ []) (tagOf the-type o)
 
 module _ (plan : Plan) (state : State) (k declines room : ℕ) (o : Outcome) (e : o ≡ outcome plan state k declines room) (done : o ≡ Done) where
   -- a run that is done passed its three tests
-  done-tests : (ready plan state ≡ true) × ((eqb k declines && leb (k * plan .cores) room) ≡ true) × (leb (state .clock + k) (2 ^ 40) ≡ true)
+  pub done-tests : (ready plan state ≡ true) × ((eqb k declines && leb (k * plan .cores) room) ≡ true) × (leb (state .clock + k) (2 ^ 40) ≡ true)
   unfolding outcome
   done-tests = go (ready plan state) (eqb k declines && leb (k * plan .cores) room) (leb (state .clock + k) (2 ^ 40)) (sym e ∙ done)
     where

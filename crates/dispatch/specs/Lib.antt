@@ -2,4 +2,5 @@ pub mod View
 pub mod Choice
 pub mod Slot
 pub mod Run
+pub mod Ready
 pub mod Promises

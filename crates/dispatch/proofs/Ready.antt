@@ -1,17 +1,16 @@
 -- What holds of a node's count at its served C, and of one less, holds of it after any slots: so no node has more left than its served C, and a state that
 -- is handed back is ready again. Assumes nothing.
-use Prim.Native.Nat.{ℕ, zero, suc, _+_, _-_, _%_, _^_, _≤_, _<_}
-use mathlib.Core.Bool.{Bool, true, false, cond}
+use Prim.Native.Nat.{ℕ, zero, suc, _+_, _-_, _*_, _%_, _^_, _≤_, _<_}
+use mathlib.Core.Bool.{Bool, true, false, cond, _&&_}
 use mathlib.Core.List.{List}
-use mathlib.Core.Path.{_≡_, refl, sym, ap, _∙_}
-use lib.Dec.{leb}
+use mathlib.Core.Path.{_≡_, refl, sym, _∙_}
+use lib.Dec.{leb, eqb}
 use lib.ListN.{length, getD}
 use borrow.Author.Tests.{le-leb, leb-true}
 use native.Mathlib.Decide.{ℕ-discrete, decLt}
 use native.Mathlib.Omega.{arith}
 use Rattle.plans.proofs.All.{left-true, right-true, all-true, all-true-at}
 use Rattle.plans.proofs.Kept.{sound-kept}
-use Rattle.plans.specs.Sound.{all}
 use Rattle.plans.specs.declared.Parent.{Parent}
 use Rattle.plans.specs.declared.Parent.the-variants.{Supply, Node as Under}
 use Rattle.plans.specs.declared.Plan.{Plan}
@@ -24,11 +23,11 @@ use Rattle.dispatch.proofs.Kept.{step-is-run}
 use Rattle.dispatch.specs.View.{View, viewOf, bitOf}
 use Rattle.dispatch.specs.Choice.{choose}
 use Rattle.dispatch.specs.Slot.{refilled, charge, follow, walk, granting, serveCore, serveTo, slot}
-use Rattle.dispatch.specs.Run.{zeroState, freshLeft, leftWithin, ready, courseTo, course, started, ran}
+use Rattle.dispatch.specs.Run.{refused, said, zeroState, freshLeft, leftWithin, ready, outcome, courseTo, course, started, ran}
 use Rattle.dispatch.specs.Ready.{FreshReady, RunReady, StepReady}
 use Rattle.dispatch.specs.declared.Choice.{Choice}
 use Rattle.dispatch.specs.declared.Choice.the-variants.{Nobody, Child}
-use Rattle.dispatch.specs.declared.Outcome.the-variants.{Done, Unfit}
+use Rattle.dispatch.specs.declared.Outcome.the-variants.{Done, Beyond, Unfit, Misfit}
 use Rattle.dispatch.specs.declared.Ran.{Ran}
 use Rattle.dispatch.specs.declared.Served.{Served}
 use Rattle.dispatch.specs.declared.State.{State}
@@ -132,6 +131,17 @@ module _ (plan : Plan) (state : State) where
     unfolding ready leftWithin
     ready-within i l =
         leb-true _ _ (all-true-at (leftWithin plan (state .left)) (plan .size) (right-true (leb (state .clock) (2 ^ 40)) _ (right-true (isFit plan) _ e)) i l)
+
+  -- where they are, no run and no step is refused by 16
+  pub ready-taken : ready plan state ≡ true → (k declines room : ℕ) → said (outcome plan state k declines room) ≡ refused 16 → ⊥
+  unfolding outcome
+  ready-taken is k declines room = go (ready plan state) (eqb k declines && leb (k * plan .cores) room) (leb (state .clock + k) (2 ^ 40)) is
+    where
+      go : (a b c : Bool) → a ≡ true → said (cond a (cond b (cond c Done Beyond) Misfit) Unfit) ≡ refused 16 → ⊥
+      go true true true e h = let z : _≡_ {A = ℕ} 0 1 = cc in omega arith
+      go true true false e h = let z : _≡_ {A = ℕ} 15 16 = cc in omega arith
+      go true false c e h = let z : _≡_ {A = ℕ} 17 16 = cc in omega arith
+      go false b c e h = let z : _≡_ {A = ℕ} 0 1 = cc in omega arith
 
 -- a fresh state is ready
 pub fresh-ready : FreshReady

@@ -11,3 +11,4 @@ pub mod Refusals
 pub mod Copying
 pub mod Running
 pub mod Reached
+pub mod Ready

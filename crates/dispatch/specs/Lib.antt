@@ -3,4 +3,5 @@ pub mod Choice
 pub mod Slot
 pub mod Run
 pub mod Reached
+pub mod Ready
 pub mod Promises

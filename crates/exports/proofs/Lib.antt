@@ -5,3 +5,4 @@ pub mod Places
 pub mod Writes
 pub mod Beyond
 pub mod Kept
+pub mod Again

@@ -1,2 +1,3 @@
 pub mod Exports
+pub mod Again
 pub mod Promises

@@ -5,18 +5,22 @@ use mathlib.Core.Path.{_≡_, refl, sym, ap, _∙_}
 use native.Mathlib.Omega.{arith}
 use lib.ListN.{take}
 use lib.Seq.{take-all}
+use Rattle.meaning.specs.declared.Kind.the-variants.{Aligned}
+use Rattle.meaning.proofs.WellFormed.{bounds}
+use Rattle.types.proofs.KeptLeast.{least-of}
 use Rattle.answers.specs.declared.Answer.{Answer}
 use Rattle.answers.specs.declared.Answer.the-variants.{Accepted, Refused}
 use Rattle.plans.proofs.Depth.{depth-positive}
 use Rattle.plans.proofs.Parents.{node-depth}
+use Rattle.plans.specs.Plan.{kindOf, wantedOf, servedOf, wantedAs}
 use Rattle.plans.specs.Sound.{Depth, top, under}
 use Rattle.plans.specs.declared.Plan.{Plan}
 use Rattle.reader.specs.Read.{readPlan}
 use Rattle.layout.proofs.Reach.{accepted-short}
 use Rattle.layout.proofs.Longer.{longer-alike}
 use Rattle.listing.proofs.Texts.{text-most}
-use Rattle.listing.specs.Promises.{Suffices, DepthPrinted, OneListing, LongerListed}
-use Rattle.listing.specs.Text.{above, depthTo, depthOf, refusedText, text}
+use Rattle.listing.specs.Promises.{Suffices, DepthPrinted, LeastPrinted, OneListing, LongerListed}
+use Rattle.listing.specs.Text.{above, depthTo, depthOf, leastOf, refusedText, text}
 use Rattle.listing.specs.declared.Listed.the-variants.{Written, Short}
 
 -- 3,708 bytes always suffice
@@ -36,6 +40,12 @@ unfolding depthOf
 depth-printed plan sound i l =
     let found = node-depth plan sound i l in
     rw (depth-found plan 8 (found .is) (found .most)) (found .is)
+
+-- the least ones that are printed are the least of the meaning
+pub least-printed : LeastPrinted
+unfolding leastOf
+least-printed plan sound i l =
+    least-of Aligned (wantedAs (kindOf plan i)) (wantedOf plan i) (bounds (servedOf plan i) (sound .served i l))
 
 -- two answers that say the same are the same
 pub one-listing : OneListing

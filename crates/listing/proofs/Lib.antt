@@ -4,4 +4,5 @@ pub mod NodeLines
 pub mod SlotLines
 pub mod Sizes
 pub mod Texts
+pub mod Decimals
 pub mod Kept

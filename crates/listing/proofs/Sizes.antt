@@ -1,5 +1,5 @@
 -- How long the pieces of a text can be, and so how long a text. Assumes nothing.
-use Prim.Native.Nat.{ℕ, zero, suc, _+_, _*_, _-_, _/_, _%_, _^_, _≤_, _<_}
+use Prim.Native.Nat.{ℕ, zero, suc, _+_, _*_, _/_, _%_, _^_, _≤_, _<_}
 use mathlib.Core.Bool.{Bool, true, false, cond}
 use mathlib.Core.List.{List, [], _∷_, _++_}
 use mathlib.Core.Path.{_≡_, refl}
@@ -30,7 +30,7 @@ use Rattle.dispatch.specs.Run.{started, courseTo, course}
 use Rattle.listing.proofs.SlotLines.{begins-most}
 use Rattle.layout.specs.Layout.{lays}
 use Rattle.listing.specs.Text.{digits, decimal, above, depthTo, depthOf, leastOf, nodeLine}
-use Rattle.listing.specs.Text.{answers, answerText, answerPart, slotLine, acceptedText, refusedText}
+use Rattle.listing.specs.Text.{firstEight, answerText, answerPart, slotLine, acceptedText, refusedText}
 
 -- a number below 10 ^ (d + 1) has at most d + 1 digits
 digits-few : (k d n : ℕ) → n < 10 ^ suc d → length (digits k n) ≤ suc d
@@ -166,9 +166,9 @@ course-brief v few cores n supplies declines left (suc i) =
     (each-take Brief 255 unsupplied-brief cores grants (slot-brief v few (getD declines i 0) cores (n + i) (getD supplies i 0) (so .left)))
 
 -- so each answer that is printed is
-pub answers-brief : (plan : Plan) → plan .size ≤ 64 → (k : ℕ) → length (answerText (getD (answers plan) k 255)) ≤ 2
-unfolding answers course
-answers-brief plan few k =
+pub first-eight-brief : (plan : Plan) → plan .size ≤ 64 → (k : ℕ) → length (answerText (getD (firstEight plan) k 255)) ≤ 2
+unfolding firstEight course
+first-eight-brief plan few k =
     let state = started plan .state in
     course-brief (viewOf plan) few (plan .cores) (state .clock) (replicate 8 255) (replicate 8 0) (state .left) 8 k
 
@@ -199,17 +199,17 @@ module _ (s : List ℕ) (plan : Plan) (kept : Sound plan) (named : (i : ℕ) →
       simp length-append (omega (arith, named i l))
 
   -- each answer with the space before it
-  part-most : (n i : ℕ) → i < plan .cores → length (answerPart (answers plan) (plan .cores) n i) ≤ 3
+  part-most : (n i : ℕ) → i < plan .cores → length (answerPart (firstEight plan) (plan .cores) n i) ≤ 3
   unfolding answerPart
-  part-most n i l = omega (arith, answers-brief plan (kept .sixty-four-nodes) (n * plan .cores + i))
+  part-most n i l = omega (arith, first-eight-brief plan (kept .sixty-four-nodes) (n * plan .cores + i))
 
-  slot-most : (n : ℕ) → n < 8 → length (slotLine plan (answers plan) n) ≤ 39
+  slot-most : (n : ℕ) → n < 8 → length (slotLine plan (firstEight plan) n) ≤ 39
   unfolding slotLine sumTo
   slot-most n l =
       let number = decimal-few 0 n (omega arith) in
       let start = decimal-few 6 (begins (plan .tick) n) (omega (arith, begins-most (plan .tick) n (kept .tick) l)) in
       let few : sumTo (λ i. 3) (plan .cores) ≤ 24 = sum-grows (λ i. 3) (plan .cores) 8 (kept .eight-cores) in
-      let parts = lays-most (answerPart (answers plan) (plan .cores) n) (λ i. 3) (plan .cores) (part-most n) in
+      let parts = lays-most (answerPart (firstEight plan) (plan .cores) n) (λ i. 3) (plan .cores) (part-most n) in
       simp length-append (omega arith)
 
   -- the text of an accepted plan
@@ -219,7 +219,7 @@ module _ (s : List ℕ) (plan : Plan) (kept : Sound plan) (named : (i : ℕ) →
       let size = decimal-few 1 (plan .size) (omega (arith, kept .sixty-four-nodes)) in
       let nodes = lays-most (nodeLine s plan) nodeMost (plan .size) node-most in
       let most : sumTo nodeMost (plan .size) ≤ 3382 = sum-grows nodeMost (plan .size) 64 (kept .sixty-four-nodes) in
-      let slots : length (lays (slotLine plan (answers plan)) 8) ≤ 312 = lays-most (slotLine plan (answers plan)) (λ n. 39) 8 slot-most in
+      let slots : length (lays (slotLine plan (firstEight plan)) 8) ≤ 312 = lays-most (slotLine plan (firstEight plan)) (λ n. 39) 8 slot-most in
       simp length-append (omega arith)
 
 -- the text of a refused one

@@ -28,7 +28,7 @@ use Rattle.dispatch.specs.declared.Ran.{Ran}
 use Rattle.listing.proofs.Pages.{put-then, lays-ext, room-first, room-then, room-byte}
 use Rattle.listing.specs.Page.{Put}
 use Rattle.layout.specs.Layout.{lays}
-use Rattle.listing.specs.Text.{decimal, space, newline, answers, answerText, answerPart, slotWord, slotLine}
+use Rattle.listing.specs.Text.{decimal, space, newline, firstEight, answerText, answerPart, slotWord, slotLine}
 
 -- The start of one of the first eight slots, where a is what was answered.
 module _ (tick : Tick) (n : ℕ) (good : isFitTick tick ≡ true) (few : n < 8) where
@@ -92,39 +92,39 @@ module _ (plan : Plan) (fitting : isFit plan ≡ true) where
 
   -- and the buffer has its answers in front
   pub slots-given : (f : Ran) → runEnd f ≡ started plan → (out after : List ℕ) → length out ≡ 64 →
-      after ≡ outAfter plan (standing (f .state)) (replicate 8 255) (replicate 8 0) out → after ≡ answers plan ++ drop (8 * plan .cores) out
-  unfolding outAfter answers
+      after ≡ outAfter plan (standing (f .state)) (replicate 8 255) (replicate 8 0) out → after ≡ firstEight plan ++ drop (8 * plan .cores) out
+  unfolding outAfter firstEight
   slots-given f e out after long h =
       (rw (ap (λ r. r .state) (e ∙ fresh-given), long, run-done) at h)
       ∙ ap (λ r. course plan (r .state) (replicate 8 255) (replicate 8 0) .answers ++ drop (8 * plan .cores) out) (sym fresh-given)
 
-  length-of-answers : length (answers plan) ≡ 8 * plan .cores
-  unfolding answers course
-  length-of-answers = length-answers (viewOf plan) (plan .cores) _ _ _ _ [] (kept .eight-cores) 8
+  length-of-first-eight : length (firstEight plan) ≡ 8 * plan .cores
+  unfolding firstEight course
+  length-of-first-eight = length-answers (viewOf plan) (plan .cores) _ _ _ _ [] (kept .eight-cores) 8
 
   -- what stands behind the answers is not looked at
-  module _ (grants rest : List ℕ) (e : grants ≡ answers plan ++ rest) where
-    part-alike : (n s : ℕ) → n < 8 → s < plan .cores → answerPart grants (plan .cores) n s ≡ answerPart (answers plan) (plan .cores) n s
+  module _ (grants rest : List ℕ) (e : grants ≡ firstEight plan ++ rest) where
+    part-alike : (n s : ℕ) → n < 8 → s < plan .cores → answerPart grants (plan .cores) n s ≡ answerPart (firstEight plan) (plan .cores) n s
     unfolding answerPart
     part-alike n s l m =
         let most : suc n * plan .cores ≤ 8 * plan .cores = mul-le-mul-right (plan .cores) l in
-        rw (e, List·getD-append (answers plan) rest 255 (n * plan .cores + s) (omega (arith, suc-mul n (plan .cores), length-of-answers)))
+        rw (e, List·getD-append (firstEight plan) rest 255 (n * plan .cores + s) (omega (arith, suc-mul n (plan .cores), length-of-first-eight)))
 
-    line-alike : (n : ℕ) → n < 8 → slotLine plan grants n ≡ slotLine plan (answers plan) n
+    line-alike : (n : ℕ) → n < 8 → slotLine plan grants n ≡ slotLine plan (firstEight plan) n
     unfolding slotLine
     line-alike n l =
-        rw (lays-ext (answerPart grants (plan .cores) n) (answerPart (answers plan) (plan .cores) n) (plan .cores) (λ s m. part-alike n s l m))
+        rw (lays-ext (answerPart grants (plan .cores) n) (answerPart (firstEight plan) (plan .cores) n) (plan .cores) (λ s m. part-alike n s l m))
 
-    lines-alike : lays (slotLine plan grants) 8 ≡ lays (slotLine plan (answers plan)) 8
-    lines-alike = lays-ext (slotLine plan grants) (slotLine plan (answers plan)) 8 line-alike
+    lines-alike : lays (slotLine plan grants) 8 ≡ lays (slotLine plan (firstEight plan)) 8
+    lines-alike = lays-ext (slotLine plan grants) (slotLine plan (firstEight plan)) 8 line-alike
 
     -- so there is room for the lines
-    pub lines-room : (at : ℕ) → at + length (lays (slotLine plan (answers plan)) 8) ≤ 4096 → at + length (lays (slotLine plan grants) 8) ≤ 4096
+    pub lines-room : (at : ℕ) → at + length (lays (slotLine plan (firstEight plan)) 8) ≤ 4096 → at + length (lays (slotLine plan grants) 8) ≤ 4096
     lines-room at h = rw lines-alike h
 
     -- and they are put
     pub lines-put : {before after : List ℕ} {at next : ℕ} → Put before at (lays (slotLine plan grants) 8) next after →
-        Put before at (lays (slotLine plan (answers plan)) 8) next after
+        Put before at (lays (slotLine plan (firstEight plan)) 8) next after
     lines-put p = rw lines-alike at p
 
 -- How an answer is printed.

@@ -25,8 +25,8 @@ use Rattle.listing.proofs.Pages.{put-then, room-first, room-then}
 use Rattle.listing.proofs.Sizes.{accepted-most, refused-most}
 use Rattle.listing.specs.Page.{Put}
 use Rattle.layout.specs.Layout.{lays}
-use Rattle.listing.specs.Text.{decimal, space, newline, nodeLine, answers, slotLine, acceptedWord, refusedWord}
-use Rattle.listing.specs.Text.{acceptedText, refusedText, textBy, text, written, refused, said, listed, outAfter}
+use Rattle.listing.specs.Text.{decimal, space, newline, nodeLine, firstEight, slotLine, acceptedWord, refusedWord}
+use Rattle.listing.specs.Text.{acceptedText, refusedText, textBy, text, wrote, refused, said, listed, outAfter}
 use Rattle.listing.specs.declared.Listed.{Listed}
 use Rattle.listing.specs.declared.Listed.the-variants.{Written}
 
@@ -62,7 +62,7 @@ module _ (s : List ℕ) (plan : Plan) where
   nodes = lays (nodeLine s plan) (plan .size)
 
   abbrev slots : List ℕ
-  slots = lays (slotLine plan (answers plan)) 8
+  slots = lays (slotLine plan (firstEight plan)) 8
 
   lines : acceptedText s plan ≡ acceptedWord ++ ((decimal (plan .size) ++ newline) ++ (nodes ++ slots))
   unfolding acceptedText
@@ -90,11 +90,11 @@ module _ (s : List ℕ) (plan : Plan) where
 
         module _ {p₃ : List ℕ} {a₃ : ℕ} (three : Put p₂ a₂ (lays (nodeLine s plan) (plan .size)) a₃ p₃) where
           -- and for the slot lines
-          pub slots-room : a₃ + length (lays (slotLine plan (answers plan)) 8) ≤ 4096
+          pub slots-room : a₃ + length (lays (slotLine plan (firstEight plan)) 8) ≤ 4096
           slots-room = room-then three slots after-size
 
           -- the pieces make up the lines
-          pub accepted-put : {after : List ℕ} {end : ℕ} → Put p₃ a₃ (lays (slotLine plan (answers plan)) 8) end after →
+          pub accepted-put : {after : List ℕ} {end : ℕ} → Put p₃ a₃ (lays (slotLine plan (firstEight plan)) 8) end after →
               Put before 0 (acceptedText s plan) end after
           accepted-put four = rw lines (put-then one (put-then two (put-then three four)))
 
@@ -158,7 +158,7 @@ module _ (s blank page : List ℕ) (n : ℕ) (put : Put blank 0 (text s) n page)
       list-room h = leb-true n room (sym fitting ∙ h)
 
       -- and then it is written
-      pub list-written : b ≡ true → written n ≡ listed s room
+      pub list-written : b ≡ true → wrote n ≡ listed s room
       unfolding listed
       list-written h = rw (← length-is, sym fitting ∙ h)
 
@@ -183,7 +183,7 @@ module _ (s out after : List ℕ) (a : Listed) (e : said a ≡ listed s (length 
   unfolding listed outAfter
   written-front = go (leb (length (text s)) (length out)) (rw h at e) changed
     where
-      go : (b : Bool) → written n ≡ cond b (written (length (text s))) (refused 17) → after ≡ cond b (text s ++ drop (length (text s)) out) out →
+      go : (b : Bool) → wrote n ≡ cond b (wrote (length (text s))) (refused 17) → after ≡ cond b (text s ++ drop (length (text s)) out) out →
           (n ≡ length (text s)) × (after ≡ text s ++ drop (length (text s)) out)
       go true k l = (cc, l)
       go false k l = absurd (let z : _≡_ {A = ℕ} 0 1 = cc in omega arith)

@@ -5,7 +5,6 @@ use mathlib.Core.List.{List, [], _∷_, _++_}
 use lib.Dec.{ltb, leb, eqb}
 use lib.ListN.{length, getD, drop, replicate}
 use Rattle.ticks.specs.Times.{begins}
-use Rattle.meaning.specs.declared.Kind.{Kind}
 use Rattle.meaning.specs.declared.Kind.the-variants.{Aligned}
 use Rattle.types.specs.Least.{leastOnes}
 use Rattle.answers.specs.declared.Answer.{Answer}
@@ -61,8 +60,8 @@ nodeLine s plan i =
     (decimal (servedOf plan i .c) ++ (slash ++ (decimal (servedOf plan i .t) ++ (space ++ (decimal (leastOf plan i) ++ newline))))))))))
 
 -- 01: "all cores supplied and nobody declining": the answers of the first eight slots from a fresh start
-unfoldable pub answers : Plan → List ℕ
-answers plan = course plan (started plan .state) (replicate 8 255) (replicate 8 0) .answers
+unfoldable pub firstEight : Plan → List ℕ
+firstEight plan = course plan (started plan .state) (replicate 8 255) (replicate 8 0) .answers
 
 -- 01: "per supply the leaf, `-` idle or `x` not supplied"
 unfoldable pub answerText : ℕ → List ℕ
@@ -91,7 +90,7 @@ refusedWord = 114 ∷ 101 ∷ 102 ∷ 117 ∷ 115 ∷ 101 ∷ 100 ∷ 32 ∷ []
 unfoldable pub acceptedText : List ℕ → Plan → List ℕ
 acceptedText s plan =
     acceptedWord ++ (decimal (plan .size) ++ (newline ++
-    (lays (nodeLine s plan) (plan .size) ++ lays (slotLine plan (answers plan)) 8)))
+    (lays (nodeLine s plan) (plan .size) ++ lays (slotLine plan (firstEight plan)) 8)))
 
 -- 01: "A refused plan prints only `refused`, number and place, with spaces between"
 unfoldable pub refusedText : ℕ → ℕ → List ℕ
@@ -107,16 +106,16 @@ text s = textBy s (readPlan s .plan) (readPlan s .answer)
 
 -- What an answer says in document 01's own terms: the length of the text that was written, or the number of a refusal, which has no place.
 pub data Said : Type 0 where
-  written : ℕ → Said
+  wrote : ℕ → Said
   refused : ℕ → Said
 
 abbrev pub said : Listed → Said
-said (Written n) = written n
+said (Written n) = wrote n
 said Short = refused 17
 
 -- the text, where there is room for it; else 17, and nothing is written
 unfoldable pub listed : List ℕ → ℕ → Said
-listed s room = cond (leb (length (text s)) room) (written (length (text s))) (refused 17)
+listed s room = cond (leb (length (text s)) room) (wrote (length (text s))) (refused 17)
 
 -- the buffer after the listing
 unfoldable pub outAfter : List ℕ → List ℕ → List ℕ

@@ -8,7 +8,7 @@ ghost use Rattle.ticks.specs.Times.{isFit as isFitTick, begins};
 ghost use Rattle.plans.specs.Sound.{sound};
 ghost use Rattle.rules.specs.Check.{isFit};
 ghost use Rattle.layout.specs.Layout.{lays};
-ghost use Rattle.listing.specs.Text.{answers, answerText, answerPart, slotLine};
+ghost use Rattle.listing.specs.Text.{firstEight, answerText, answerPart, slotLine};
 ghost use Rattle.listing.specs.Page.{Put};
 use crate::pieces;
 use plans::Plan;
@@ -17,8 +17,8 @@ use ticks::Tick;
 
 // A line for each of the first eight slots.
 pub fn put_slots(page: &mut [u8; 4096], at: usize, plan: Plan) -> usize
-    requires { ⌜ (isFit plan ≡ true) × (at + length (lays (slotLine plan (answers plan)) 8) ≤ 4096) ⌝ }
-    ensures { λ r. ⌜ Put (now (page .entry)) at (lays (slotLine plan (answers plan)) 8) r (now (page .exit)) ⌝ }
+    requires { ⌜ (isFit plan ≡ true) × (at + length (lays (slotLine plan (firstEight plan)) 8) ≤ 4096) ⌝ }
+    ensures { λ r. ⌜ Put (now (page .entry)) at (lays (slotLine plan (firstEight plan)) 8) r (now (page .exit)) ⌝ }
 {
     let mut grants = [255u8; 64];
     give(plan, &mut grants);
@@ -28,7 +28,7 @@ pub fn put_slots(page: &mut [u8; 4096], at: usize, plan: Plan) -> usize
 // The answers of the first eight slots from a fresh start, slot by slot.
 fn give(plan: Plan, grants: &mut [u8; 64])
     requires { ⌜ isFit plan ≡ true ⌝ }
-    ensures { λ r. ⌜ now (grants .exit) ≡ answers plan ++ drop (8 * plan .cores) (now (grants .entry)) ⌝ }
+    ensures { λ r. ⌜ now (grants .exit) ≡ firstEight plan ++ drop (8 * plan .cores) (now (grants .entry)) ⌝ }
 {
     let fresh = dispatch::fresh(plan);
     dispatch::run(plan, fresh.state, &[255; 8], &[0; 8], grants);

@@ -5,3 +5,4 @@ pub mod Fields
 pub mod Counts
 pub mod Back
 pub mod Kept
+pub mod Held

@@ -1,6 +1,6 @@
 -- `lines::number` meets its contract: n is what the digits passed spell. Assumes nothing.
 use mathlib.Core.Path.{_≡_}
-use Prim.Native.Nat.{_-_, _≤_, _<_}
+use Prim.Native.Nat.{_-_, _≤_}
 use lib.ListN.{length}
 use Rattle.lines.specs.Digits.{spelled}
 use Rattle.lines.proofs.Digits.{spelled-none, spelled-more, spelled-done}

@@ -1,20 +1,18 @@
 -- What specs/Promises.antt says of the choice, of steps and of runs holds. Assumes nothing.
 use Prim.Native.Nat.{ℕ, zero, suc, _+_, _<_}
 use mathlib.Core.Bool.{cond}
-use mathlib.Core.List.{List, [], _∷_, _++_, append-nil, append-assoc}
+use mathlib.Core.List.{List, _++_, append-nil, append-assoc}
 use mathlib.Core.Path.{_≡_, refl, sym, ap, _∙_}
 use lib.Dec.{eqb}
-use lib.ListN.{length, getD, take, List·getD-append}
+use lib.ListN.{length, getD, List·getD-append}
 use lib.Seq.{getD-append-add}
 use native.Mathlib.Nat.{add-zero, add-suc, add-assoc, le-refl}
 use native.Mathlib.Omega.{arith}
-use Rattle.plans.specs.declared.Plan.{Plan}
 use Rattle.dispatch.proofs.Choices.{choice-chosen, choice-none, chosen-choice, none-choice}
 use Rattle.dispatch.proofs.SlotsDepth.{at-top, walk-enough}
 use Rattle.dispatch.proofs.Running.{course-one, grants-whole}
-use Rattle.dispatch.specs.View.{View, viewOf}
-use Rattle.dispatch.specs.Slot.{SlotEnd, slot}
-use Rattle.dispatch.specs.Run.{Said, done, refused, said, Standing, outcome, Course, courseTo, course, ran, outAfter, stepped}
+use Rattle.dispatch.specs.View.{View}
+use Rattle.dispatch.specs.Run.{Said, done, refused, said, Course, courseTo, ran, outAfter, stepped}
 use Rattle.dispatch.specs.Promises.{ChoiceExactly, EightLevels, RunsJoin, StepIsSlot, OneOutcome}
 use Rattle.dispatch.specs.declared.Outcome.{Outcome}
 use Rattle.dispatch.specs.declared.Outcome.the-variants.{Done, Beyond, Unfit, Misfit}

@@ -10,3 +10,6 @@ pub mod Walking
 pub mod Refusals
 pub mod Copying
 pub mod Running
+pub mod SlotsAlike
+pub mod SlotsPast
+pub mod KeptUnused

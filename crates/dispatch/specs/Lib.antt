@@ -3,3 +3,4 @@ pub mod Choice
 pub mod Slot
 pub mod Run
 pub mod Promises
+pub mod Unused

@@ -1,6 +1,6 @@
--- What specs/Promises.antt says of the choice, of steps and of runs holds. Assumes nothing.
+-- What specs/Promises.antt says of the choice, of counts, of steps and of runs holds. Assumes nothing.
 use Prim.Native.Nat.{ℕ, zero, suc, _+_, _<_}
-use mathlib.Core.Bool.{cond}
+use mathlib.Core.Bool.{Bool, true, false, cond}
 use mathlib.Core.List.{List, _++_, append-nil, append-assoc}
 use mathlib.Core.Path.{_≡_, refl, sym, ap, _∙_}
 use lib.Dec.{eqb}
@@ -8,12 +8,17 @@ use lib.ListN.{length, getD, List·getD-append}
 use lib.Seq.{getD-append-add}
 use native.Mathlib.Nat.{add-zero, add-suc, add-assoc, le-refl}
 use native.Mathlib.Omega.{arith}
+use Rattle.rules.proofs.Kept.{fits-exactly}
+use Rattle.rules.specs.Check.{isFit}
+use Rattle.rules.specs.Fit.{Fit}
 use Rattle.dispatch.proofs.Choices.{choice-chosen, choice-none, chosen-choice, none-choice}
+use Rattle.dispatch.proofs.Slots.{length-refilled, refilled-due, refilled-kept}
+use Rattle.dispatch.proofs.SlotsFresh.{length-fresh, fresh-count, fresh-past}
 use Rattle.dispatch.proofs.SlotsDepth.{at-top, walk-enough}
 use Rattle.dispatch.proofs.Running.{course-one, grants-whole}
-use Rattle.dispatch.specs.View.{View}
-use Rattle.dispatch.specs.Run.{Said, done, refused, said, Course, courseTo, ran, outAfter, stepped}
-use Rattle.dispatch.specs.Promises.{ChoiceExactly, EightLevels, RunsJoin, StepIsSlot, OneOutcome}
+use Rattle.dispatch.specs.View.{View, viewOf}
+use Rattle.dispatch.specs.Run.{Said, done, refused, said, zeroState, started, Course, courseTo, ran, outAfter, stepped}
+use Rattle.dispatch.specs.Promises.{ChoiceExactly, RefillExactly, FreshEnd, FreshExactly, EightLevels, RunsJoin, StepIsSlot, OneOutcome}
 use Rattle.dispatch.specs.declared.Outcome.{Outcome}
 use Rattle.dispatch.specs.declared.Outcome.the-variants.{Done, Beyond, Unfit, Misfit}
 
@@ -21,6 +26,37 @@ use Rattle.dispatch.specs.declared.Outcome.the-variants.{Done, Beyond, U
 pub choice-exactly : ChoiceExactly
 choice-exactly v left declines x =
     (λ i. (choice-chosen v left declines x i, chosen-choice v left declines x i), (choice-none v left declines x, none-choice v left declines x))
+
+-- a refill is what document 01 says, entry by entry
+pub refill-exactly : RefillExactly
+refill-exactly v n left =
+    record {
+      many = length-refilled v n left;
+      due = refilled-due v n left;
+      kept = λ i l no. refilled-kept v n left i (λ m. no);
+      past = λ i l. refilled-kept v n left i (λ m. absurd (omega arith));
+    }
+
+-- and so is a fresh start
+pub fresh-exactly : FreshExactly
+unfolding started
+fresh-exactly plan = (given, λ unfit. refused-start (isFit plan) refl unfit)
+  where
+    given : Fit plan → FreshEnd plan (started plan)
+    given fit =
+        let is : isFit plan ≡ true = fits-exactly plan .1 fit in
+        rw is
+        (record {
+          outcome = refl;
+          clock = refl;
+          many = length-fresh (viewOf plan);
+          counts = λ i l. fresh-count (viewOf plan) i (omega (arith, fit .sound .sixty-four-nodes)) l;
+          past = fresh-past (viewOf plan);
+        })
+
+    refused-start : (b : Bool) → isFit plan ≡ b → (Fit plan → ⊥) → started plan ≡ record { outcome = refused 16; state = zeroState }
+    refused-start true e unfit = absurd (unfit (fits-exactly plan .0 e))
+    refused-start false e unfit = rw e
 
 -- eight levels are enough from a supply
 pub eight-levels : EightLevels

@@ -8,7 +8,7 @@ use mathlib.Core.Path.{_≡_, refl, sym, ap, _∙_}
 use lib.Dec.{ltb}
 use lib.ListN.{getD}
 use borrow.Author.Count.{below-more}
-use borrow.Author.Tests.{lt-ltb, ltb-true, ltb-false, not-true}
+use borrow.Author.Tests.{lt-ltb, ltb-true, ltb-false}
 use native.Mathlib.Nat.{le-refl, eq-or-lt-of-le}
 use native.Mathlib.Omega.{arith}
 use Rattle.plans.proofs.All.{left-true, right-true}
@@ -155,17 +155,10 @@ module _ (v : View) (left : List ℕ) (declines : ℕ) (x : Parent) where
     unfolding eligible
     eligible-under = same-equal (v .parent i) x (left-true (same (v .parent i) x) _ may)
 
-    -- has slots left
+    -- and has slots left
     pub eligible-left : 0 < getD left i 0
     unfolding eligible
     eligible-left = ltb-true 0 (getD left i 0) (left-true (ltb 0 (getD left i 0)) _ (right-true (same (v .parent i) x) _ may))
-
-    -- and does not decline, if it is a leaf
-    pub eligible-willing : v .leaf i ≡ true → bitOf declines i ≡ false
-    unfolding eligible
-    eligible-willing leaf =
-        let h = right-true (ltb 0 (getD left i 0)) _ (right-true (same (v .parent i) x) _ may) in
-        rw leaf at (not-true (v .leaf i && bitOf declines i) h)
 
   module _ (i : ℕ) (e : choose v left declines x ≡ just i) where
     -- the chosen node is there
@@ -179,10 +172,6 @@ module _ (v : View) (left : List ℕ) (declines : ℕ) (x : Parent) where
     -- with slots left
     pub choice-left : 0 < getD left i 0
     choice-left = eligible-left i (choice-chosen i e .may)
-
-    -- that does not decline, if it is a leaf
-    pub choice-willing : v .leaf i ≡ true → bitOf declines i ≡ false
-    choice-willing = eligible-willing i (choice-chosen i e .may)
 
     -- and no other that may be taken has a smaller period, or the same and a lower number
     pub choice-first : (j : ℕ) → j < v .size → eligible v left declines x j ≡ true → (v .t i < v .t j) ⊎ ((v .t i ≡ v .t j) × (i ≤ j))

@@ -2,7 +2,7 @@
 use Prim.Native.Nat.{ℕ, zero, suc, _-_, _%_, _≤_, _<_}
 use mathlib.Core.Bool.{Bool, true, false, cond}
 use mathlib.Core.List.{List}
-use mathlib.Core.Path.{_≡_, refl, sym, _∙_}
+use mathlib.Core.Path.{_≡_, refl, _∙_}
 use lib.ListN.{length, getD, set, drop, replicate, length-set, List·getD-eq-default}
 use lib.Seq.{getD-set-same, getD-set-other, set-out, drop-set-lt}
 use borrow.Author.Tests.{eq-eqb, ne-eqb}
@@ -84,11 +84,6 @@ module _ (v : View) (n : ℕ) where
     pub refilled-kept : (i : ℕ) → (i < v .size → n % v .t i ≡ 0 → ⊥) → getD (refilled v n left) i 0 ≡ getD left i 0
     unfolding refilled
     refilled-kept i kept = refill-to-else left i (v .size) kept
-
-    -- and past the counts there is nothing to refill
-    pub refilled-past : (i : ℕ) → length left ≤ i → getD (refilled v n left) i 0 ≡ getD left i 0
-    refilled-past i past =
-        List·getD-eq-default (refilled v n left) 0 {n = i} (omega (arith, length-refilled)) ∙ sym (List·getD-eq-default left 0 {n = i} past)
 
 module _ (left : List ℕ) (i : ℕ) where
   -- a charge keeps the number of counts,

@@ -8,7 +8,7 @@ use mathlib.Core.Path.{_≡_, refl, sym, ap, _∙_}
 use lib.Dec.{ltb}
 use lib.ListN.{getD}
 use borrow.Author.Count.{below-more}
-use borrow.Author.Tests.{lt-ltb, ltb-true, ltb-false}
+use borrow.Author.Tests.{lt-ltb, ltb-true, ltb-false, not-true}
 use native.Mathlib.Nat.{le-refl, eq-or-lt-of-le}
 use native.Mathlib.Omega.{arith}
 use Rattle.plans.proofs.All.{left-true, right-true}
@@ -144,21 +144,28 @@ module _ (v : View) (left : List ℕ) (declines : ℕ) (x : Parent) where
       go nobody e = absurd (true≢false (sym may ∙ choice-none e i l))
       go (just j) e = (j, e)
 
-  -- a child of x with slots left may be taken, if it is no leaf that declines
-  pub eligible-child : (i : ℕ) → v .parent i ≡ x → 0 < getD left i 0 → (v .leaf i && bitOf declines i) ≡ false → eligible v left declines x i ≡ true
-  unfolding eligible
-  eligible-child i up some willing = rw (same-self (v .parent i) x up, lt-ltb 0 (getD left i 0) some, willing)
-
   module _ (i : ℕ) (may : eligible v left declines x i ≡ true) where
     -- who may be taken under x is a child of x
     pub eligible-under : v .parent i ≡ x
     unfolding eligible
     eligible-under = same-equal (v .parent i) x (left-true (same (v .parent i) x) _ may)
 
-    -- and has slots left
+    -- with slots left
     pub eligible-left : 0 < getD left i 0
     unfolding eligible
     eligible-left = ltb-true 0 (getD left i 0) (left-true (ltb 0 (getD left i 0)) _ (right-true (same (v .parent i) x) _ may))
+
+  -- a child of x with slots left may be taken, if it is no leaf that declines
+  pub eligible-child : (i : ℕ) → v .parent i ≡ x → 0 < getD left i 0 → (v .leaf i && bitOf declines i) ≡ false → eligible v left declines x i ≡ true
+  unfolding eligible
+  eligible-child i up some willing = rw (same-self (v .parent i) x up, lt-ltb 0 (getD left i 0) some, willing)
+
+  -- and a leaf that may be taken does not decline
+  pub eligible-willing : (i : ℕ) → eligible v left declines x i ≡ true → v .leaf i ≡ true → bitOf declines i ≡ false
+  unfolding eligible
+  eligible-willing i may leaf =
+      let h = right-true (ltb 0 (getD left i 0)) _ (right-true (same (v .parent i) x) _ may) in
+      rw leaf at (not-true (v .leaf i && bitOf declines i) h)
 
   module _ (i : ℕ) (e : choose v left declines x ≡ just i) where
     -- the chosen node is there

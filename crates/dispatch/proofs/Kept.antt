@@ -1,6 +1,6 @@
 -- What specs/Promises.antt says of the choice, of counts, of steps and of runs holds. Assumes nothing.
 use Prim.Native.Nat.{ℕ, zero, suc, _+_, _<_}
-use mathlib.Core.Bool.{Bool, true, false, cond}
+use mathlib.Core.Bool.{Bool, true, false, cond, _&&_}
 use mathlib.Core.List.{List, _++_, append-nil, append-assoc}
 use mathlib.Core.Path.{_≡_, refl, sym, ap, _∙_}
 use lib.Dec.{eqb}
@@ -11,16 +11,32 @@ use native.Mathlib.Omega.{arith}
 use Rattle.rules.proofs.Kept.{fits-exactly}
 use Rattle.rules.specs.Check.{isFit}
 use Rattle.rules.specs.Fit.{Fit}
-use Rattle.dispatch.proofs.Choices.{choice-chosen, choice-none, chosen-choice, none-choice}
+use Rattle.dispatch.proofs.Choices.{eligible-under, eligible-left, eligible-child, eligible-willing, choice-chosen, choice-none, chosen-choice, none-choice}
 use Rattle.dispatch.proofs.Slots.{length-refilled, refilled-due, refilled-kept}
 use Rattle.dispatch.proofs.SlotsFresh.{length-fresh, fresh-count, fresh-past}
 use Rattle.dispatch.proofs.SlotsDepth.{at-top, walk-enough}
 use Rattle.dispatch.proofs.Running.{course-one, grants-whole}
-use Rattle.dispatch.specs.View.{View, viewOf}
+use Rattle.dispatch.specs.View.{View, viewOf, bitOf}
 use Rattle.dispatch.specs.Run.{Said, done, refused, said, zeroState, started, Course, courseTo, ran, outAfter, stepped}
-use Rattle.dispatch.specs.Promises.{ChoiceExactly, RefillExactly, FreshEnd, FreshExactly, EightLevels, RunsJoin, StepIsSlot, OneOutcome}
+use Rattle.dispatch.specs.Promises.{MayExactly, ChoiceExactly, RefillExactly, FreshEnd, FreshExactly, EightLevels, RunsJoin, StepIsSlot, OneOutcome}
 use Rattle.dispatch.specs.declared.Outcome.{Outcome}
 use Rattle.dispatch.specs.declared.Outcome.the-variants.{Done, Beyond, Unfit, Misfit}
+
+-- children with slots left may be taken, but for leaves that decline, and nobody else
+pub may-exactly : MayExactly
+may-exactly v left declines x i = (
+  λ may.
+      record {
+        child = eligible-under v left declines x i may;
+        some = eligible-left v left declines x i may;
+        willing = eligible-willing v left declines x i may;
+      },
+  λ may. eligible-child v left declines x i (may .child) (may .some) (passed (v .leaf i) (may .willing)),
+)
+  where
+    passed : (b : Bool) → (b ≡ true → bitOf declines i ≡ false) → (b && bitOf declines i) ≡ false
+    passed true h = h refl
+    passed false h = refl
 
 -- the choice is the one that the sentence names, and nobody exactly when nobody may be taken
 pub choice-exactly : ChoiceExactly

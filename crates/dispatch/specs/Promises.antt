@@ -1,6 +1,6 @@
 -- What is promised of the choice, of counts, of steps and of runs. Why each holds is in proofs/. Assumes nothing.
 use Prim.Native.Nat.{ℕ, suc, _+_, _-_, _%_, _≤_, _<_}
-use mathlib.Core.Bool.{false}
+use mathlib.Core.Bool.{true, false}
 use mathlib.Core.List.{List, _++_}
 use mathlib.Core.Logic.{_↔_}
 use mathlib.Core.Path.{_≡_}
@@ -11,11 +11,21 @@ use Rattle.plans.specs.declared.Parent.{Parent}
 use Rattle.plans.specs.declared.Parent.the-variants.{Supply}
 use Rattle.plans.specs.declared.Plan.{Plan}
 use Rattle.rules.specs.Fit.{Fit}
-use Rattle.dispatch.specs.View.{View, viewOf, servedC}
+use Rattle.dispatch.specs.View.{View, viewOf, servedC, bitOf}
 use Rattle.dispatch.specs.Choice.{nobody, just, eligible, choose, Chosen}
 use Rattle.dispatch.specs.Slot.{SlotEnd, refilled, walk, slot}
 use Rattle.dispatch.specs.Run.{done, refused, said, Standing, RunEnd, zeroState, started, Course, courseTo, stepped}
 use Rattle.dispatch.specs.declared.Outcome.{Outcome}
+
+-- node i may be taken under x
+pub record May (v : View) (left : List ℕ) (declines : ℕ) (x : Parent) (i : ℕ) : Type 0 where
+  pub child : v .parent i ≡ x
+  pub some : 0 < getD left i 0
+  pub willing : v .leaf i ≡ true → bitOf declines i ≡ false
+
+-- 01: "among its children with slots left, leaves that decline passed over": just these may be taken
+abbrev pub MayExactly : Type 0
+MayExactly = (v : View) (left : List ℕ) (declines : ℕ) (x : Parent) (i : ℕ) → (eligible v left declines x i ≡ true) ↔ May v left declines x i
 
 -- The choice is the one that document 01's sentence names, and there is nobody exactly when nobody may be taken.
 abbrev pub ChoiceExactly : Type 0

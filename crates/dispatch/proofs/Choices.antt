@@ -1,7 +1,7 @@
 -- Laws of the choice: what a choice says of the node that it names, that nobody is chosen exactly when nobody may be taken, and that only the
--- counts of the parent's own children matter. Assumes nothing.
+-- nodes that are there, the counts of the parent's own children and the bits of leaves matter. Assumes nothing.
 use Prim.Native.Nat.{ℕ, zero, suc, _≤_, _<_}
-use mathlib.Core.Bool.{Bool, true, false, not, cond, _&&_, true≢false}
+use mathlib.Core.Bool.{Bool, true, false, cond, _&&_, true≢false}
 use mathlib.Core.List.{List}
 use mathlib.Core.Logic.{_⊎_, inl, inr}
 use mathlib.Core.Path.{_≡_, refl, sym, ap, _∙_}
@@ -98,6 +98,10 @@ module _ (v : View) (left : List ℕ) (declines : ℕ) (x : Parent) where
   told-child : (k : ℕ) {i : ℕ} → Told k (just i) → ChosenTo k i
   told-child k (one i c) = c
 
+  -- whoever is chosen among the first k nodes is one of them
+  choose-to-below : (k i : ℕ) → chooseTo v left declines x k ≡ just i → i < k
+  choose-to-below k i e = told-child k (rw e at (told k)) .there
+
   -- where nobody is told, nobody may be taken
   told-nobody : (k : ℕ) → Told k nobody → (j : ℕ) → j < k → eligible v left declines x j ≡ false
   told-nobody k (none h) = h
@@ -140,28 +144,28 @@ module _ (v : View) (left : List ℕ) (declines : ℕ) (x : Parent) where
       go nobody e = absurd (true≢false (sym may ∙ choice-none e i l))
       go (just j) e = (j, e)
 
-  -- a child of x with slots left may be taken, if it is no leaf that declines
-  pub eligible-child : (i : ℕ) → v .parent i ≡ x → 0 < getD left i 0 → (v .leaf i && bitOf declines i) ≡ false → eligible v left declines x i ≡ true
-  unfolding eligible
-  eligible-child i up some willing = rw (same-self (v .parent i) x up, lt-ltb 0 (getD left i 0) some, willing)
-
   module _ (i : ℕ) (may : eligible v left declines x i ≡ true) where
     -- who may be taken under x is a child of x
     pub eligible-under : v .parent i ≡ x
     unfolding eligible
     eligible-under = same-equal (v .parent i) x (left-true (same (v .parent i) x) _ may)
 
-    -- has slots left
+    -- with slots left
     pub eligible-left : 0 < getD left i 0
     unfolding eligible
     eligible-left = ltb-true 0 (getD left i 0) (left-true (ltb 0 (getD left i 0)) _ (right-true (same (v .parent i) x) _ may))
 
-    -- and does not decline, if it is a leaf
-    pub eligible-willing : v .leaf i ≡ true → bitOf declines i ≡ false
-    unfolding eligible
-    eligible-willing leaf =
-        let h = right-true (ltb 0 (getD left i 0)) _ (right-true (same (v .parent i) x) _ may) in
-        rw leaf at (not-true (v .leaf i && bitOf declines i) h)
+  -- a child of x with slots left may be taken, if it is no leaf that declines
+  pub eligible-child : (i : ℕ) → v .parent i ≡ x → 0 < getD left i 0 → (v .leaf i && bitOf declines i) ≡ false → eligible v left declines x i ≡ true
+  unfolding eligible
+  eligible-child i up some willing = rw (same-self (v .parent i) x up, lt-ltb 0 (getD left i 0) some, willing)
+
+  -- and a leaf that may be taken does not decline
+  pub eligible-willing : (i : ℕ) → eligible v left declines x i ≡ true → v .leaf i ≡ true → bitOf declines i ≡ false
+  unfolding eligible
+  eligible-willing i may leaf =
+      let h = right-true (ltb 0 (getD left i 0)) _ (right-true (same (v .parent i) x) _ may) in
+      rw leaf at (not-true (v .leaf i && bitOf declines i) h)
 
   module _ (i : ℕ) (e : choose v left declines x ≡ just i) where
     -- the chosen node is there
@@ -176,35 +180,61 @@ module _ (v : View) (left : List ℕ) (declines : ℕ) (x : Parent) where
     pub choice-left : 0 < getD left i 0
     choice-left = eligible-left i (choice-chosen i e .may)
 
-    -- that does not decline, if it is a leaf
-    pub choice-willing : v .leaf i ≡ true → bitOf declines i ≡ false
-    choice-willing = eligible-willing i (choice-chosen i e .may)
-
     -- and no other that may be taken has a smaller period, or the same and a lower number
     pub choice-first : (j : ℕ) → j < v .size → eligible v left declines x j ≡ true → (v .t i < v .t j) ⊎ ((v .t i ≡ v .t j) × (i ≤ j))
     choice-first = choice-chosen i e .before
 
-module _ (v : View) (left other : List ℕ) (declines : ℕ) (x : Parent)
-    (agree : (i : ℕ) → i < v .size → v .parent i ≡ x → getD left i 0 ≡ getD other i 0) where
-  -- whether a node may be taken under x is told by its own count, where it is a child of x
-  eligible-local : (i : ℕ) → i < v .size → eligible v left declines x i ≡ eligible v other declines x i
+-- two views that agree at every node that is there
+pub record Alike (v w : View) : Type 0 where
+  pub size : v .size ≡ w .size
+  pub parent : (i : ℕ) → i < v .size → v .parent i ≡ w .parent i
+  pub leaf : (i : ℕ) → i < v .size → v .leaf i ≡ w .leaf i
+  pub c : (i : ℕ) → i < v .size → v .c i ≡ w .c i
+  pub t : (i : ℕ) → i < v .size → v .t i ≡ w .t i
+
+alike-self : (v : View) → Alike v v
+alike-self v = record { size = refl; parent = λ i l. refl; leaf = λ i l. refl; c = λ i l. refl; t = λ i l. refl }
+
+-- two words that agree in the bit of every leaf that is there
+abbrev pub SameLeaves : View → ℕ → ℕ → Type 0
+SameLeaves v declines others = (i : ℕ) → i < v .size → v .leaf i ≡ true → bitOf declines i ≡ bitOf others i
+
+-- a second test that is asked only where the first holds
+second-asked : (a b c : Bool) → (a ≡ true → b ≡ c) → (a && b) ≡ (a && c)
+second-asked true b c h = h refl
+second-asked false b c h = refl
+
+module _ (v w : View) (alike : Alike v w) (left other : List ℕ) (declines others : ℕ) (x : Parent)
+    (counts : (i : ℕ) → i < v .size → v .parent i ≡ x → getD left i 0 ≡ getD other i 0) (words : SameLeaves v declines others) where
+  -- whether a node may be taken under x is told by its own count, where it is a child of x, and by its own bit, where it is a leaf
+  eligible-alike : (i : ℕ) → i < v .size → eligible v left declines x i ≡ eligible w other others x i
   unfolding eligible
-  eligible-local i l = go (same (v .parent i) x) refl
-    where
-      rest : List ℕ → Bool
-      rest counts = ltb 0 (getD counts i 0) && not (v .leaf i && bitOf declines i)
+  eligible-alike i l =
+      let declined = second-asked (v .leaf i) (bitOf declines i) (bitOf others i) (words i l) in
+      rw (← (alike .parent i l), ← (alike .leaf i l), declined)
+      (second-asked (same (v .parent i) x) _ _ (λ e. rw (counts i l (same-equal (v .parent i) x e))))
 
-      go : (b : Bool) → same (v .parent i) x ≡ b → (b && rest left) ≡ (b && rest other)
-      go true e = rw (agree i l (same-equal (v .parent i) x e))
-      go false e = refl
+  -- of two nodes that are there the same is preferred
+  prefer-alike : (best : Pick) (i : ℕ) → ((j : ℕ) → best ≡ just j → j < v .size) → i < v .size → prefer v best i ≡ prefer w best i
+  unfolding prefer
+  prefer-alike nobody i below l = refl
+  prefer-alike (just j) i below l = rw (alike .t i l, alike .t j (below j refl))
 
-  -- so among the first k nodes only the counts of x's own children matter
-  choice-to-local : (k : ℕ) → k ≤ v .size → chooseTo v left declines x k ≡ chooseTo v other declines x k
+  -- so among the first k nodes only the counts of x's own children and the bits of leaves matter
+  choose-to-alike : (k : ℕ) → k ≤ v .size → chooseTo v left declines x k ≡ chooseTo w other others x k
   unfolding chooseTo consider
-  choice-to-local zero l = refl
-  choice-to-local (suc k) l = rw (choice-to-local k (omega arith), eligible-local k l)
+  choose-to-alike zero l = refl
+  choose-to-alike (suc k) l =
+      let best = chooseTo v left declines x k in
+      let there : (j : ℕ) → best ≡ just j → j < v .size = λ j e. omega (arith, choose-to-below v left declines x k j e) in
+      rw (← (choose-to-alike k (omega arith)), ← (eligible-alike k l), prefer-alike best k there l)
 
-  -- two counts that agree on the children of x give the same choice
-  pub choice-local : choose v left declines x ≡ choose v other declines x
+  -- views that agree, counts that agree on the children of x, and words that agree on the leaves give the same choice
+  pub choice-alike : choose v left declines x ≡ choose w other others x
   unfolding choose
-  choice-local = choice-to-local (v .size) (le-refl (v .size))
+  choice-alike = choose-to-alike (v .size) (le-refl (v .size)) ∙ ap (chooseTo w other others x) (alike .size)
+
+-- two counts that agree on the children of x give the same choice
+pub choice-local : (v : View) (left other : List ℕ) (declines : ℕ) (x : Parent) →
+    ((i : ℕ) → i < v .size → v .parent i ≡ x → getD left i 0 ≡ getD other i 0) → choose v left declines x ≡ choose v other declines x
+choice-local v left other declines x agree = choice-alike v v (alike-self v) left other declines declines x agree (λ i l leaf. refl)

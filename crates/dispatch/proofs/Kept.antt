@@ -1,28 +1,78 @@
--- What specs/Promises.antt says of the choice, of steps and of runs holds. Assumes nothing.
+-- What specs/Promises.antt says of the choice, of counts, of steps and of runs holds. Assumes nothing.
 use Prim.Native.Nat.{ℕ, zero, suc, _+_, _<_}
-use mathlib.Core.Bool.{cond}
-use mathlib.Core.List.{List, [], _∷_, _++_, append-nil, append-assoc}
+use mathlib.Core.Bool.{Bool, true, false, cond, _&&_}
+use mathlib.Core.List.{List, _++_, append-nil, append-assoc}
 use mathlib.Core.Path.{_≡_, refl, sym, ap, _∙_}
 use lib.Dec.{eqb}
-use lib.ListN.{length, getD, take, List·getD-append}
+use lib.ListN.{length, getD, List·getD-append}
 use lib.Seq.{getD-append-add}
 use native.Mathlib.Nat.{add-zero, add-suc, add-assoc, le-refl}
 use native.Mathlib.Omega.{arith}
-use Rattle.plans.specs.declared.Plan.{Plan}
-use Rattle.dispatch.proofs.Choices.{choice-chosen, choice-none, chosen-choice, none-choice}
+use Rattle.rules.proofs.Kept.{fits-exactly}
+use Rattle.rules.specs.Check.{isFit}
+use Rattle.rules.specs.Fit.{Fit}
+use Rattle.dispatch.proofs.Choices.{eligible-under, eligible-left, eligible-child, eligible-willing, choice-chosen, choice-none, chosen-choice, none-choice}
+use Rattle.dispatch.proofs.Slots.{length-refilled, refilled-due, refilled-kept}
+use Rattle.dispatch.proofs.SlotsFresh.{length-fresh, fresh-count, fresh-past}
 use Rattle.dispatch.proofs.SlotsDepth.{at-top, walk-enough}
 use Rattle.dispatch.proofs.Running.{course-one, grants-whole}
-use Rattle.dispatch.specs.View.{View, viewOf}
-use Rattle.dispatch.specs.Slot.{SlotEnd, slot}
-use Rattle.dispatch.specs.Run.{Said, done, refused, said, Standing, outcome, Course, courseTo, course, ran, outAfter, stepped}
-use Rattle.dispatch.specs.Promises.{ChoiceExactly, EightLevels, RunsJoin, StepIsSlot, OneOutcome}
+use Rattle.dispatch.specs.View.{View, viewOf, bitOf}
+use Rattle.dispatch.specs.Run.{Said, done, refused, said, zeroState, started, Course, courseTo, ran, outAfter, stepped}
+use Rattle.dispatch.specs.Promises.{MayExactly, ChoiceExactly, RefillExactly, FreshEnd, FreshExactly, EightLevels, RunsJoin, StepIsSlot, OneOutcome}
 use Rattle.dispatch.specs.declared.Outcome.{Outcome}
 use Rattle.dispatch.specs.declared.Outcome.the-variants.{Done, Beyond, Unfit, Misfit}
+
+-- children with slots left may be taken, but for leaves that decline, and nobody else
+pub may-exactly : MayExactly
+may-exactly v left declines x i = (
+  λ may.
+      record {
+        child = eligible-under v left declines x i may;
+        some = eligible-left v left declines x i may;
+        willing = eligible-willing v left declines x i may;
+      },
+  λ may. eligible-child v left declines x i (may .child) (may .some) (passed (v .leaf i) (may .willing)),
+)
+  where
+    passed : (b : Bool) → (b ≡ true → bitOf declines i ≡ false) → (b && bitOf declines i) ≡ false
+    passed true h = h refl
+    passed false h = refl
 
 -- the choice is the one that the sentence names, and nobody exactly when nobody may be taken
 pub choice-exactly : ChoiceExactly
 choice-exactly v left declines x =
     (λ i. (choice-chosen v left declines x i, chosen-choice v left declines x i), (choice-none v left declines x, none-choice v left declines x))
+
+-- a refill is what document 01 says, entry by entry
+pub refill-exactly : RefillExactly
+refill-exactly v n left =
+    record {
+      many = length-refilled v n left;
+      due = refilled-due v n left;
+      kept = λ i l no. refilled-kept v n left i (λ m. no);
+      past = λ i l. refilled-kept v n left i (λ m. absurd (omega arith));
+    }
+
+-- and so is a fresh start
+pub fresh-exactly : FreshExactly
+unfolding started
+fresh-exactly plan = (given, λ unfit. refused-start (isFit plan) refl unfit)
+  where
+    given : Fit plan → FreshEnd plan (started plan)
+    given fit =
+        let is : isFit plan ≡ true = fits-exactly plan .1 fit in
+        rw is
+        (record {
+          outcome = refl;
+          clock = refl;
+          many = length-fresh (viewOf plan);
+          counts = λ i l. fresh-count (viewOf plan) i (omega (arith, fit .sound .sixty-four-nodes)) l;
+          past = fresh-past (viewOf plan);
+        })
+
+    refused-start : (b : Bool) → isFit plan ≡ b → (Fit plan → ⊥) → started plan ≡ record { outcome = refused 16; state = zeroState }
+    refused-start true e unfit = absurd (unfit (fits-exactly plan .0 e))
+    refused-start false e unfit = rw e
 
 -- eight levels are enough from a supply
 pub eight-levels : EightLevels

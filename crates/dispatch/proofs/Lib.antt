@@ -12,3 +12,6 @@ pub mod Copying
 pub mod Running
 pub mod Reached
 pub mod Ready
+pub mod SlotsAlike
+pub mod SlotsPast
+pub mod KeptUnused

@@ -1,5 +1,5 @@
 -- Whoever is chosen is charged, whatever comes below: a walk from a host changes the counts of later nodes only. Assumes nothing.
-use Prim.Native.Nat.{ℕ, zero, suc, _-_, _≤_, _<_}
+use Prim.Native.Nat.{ℕ, zero, suc, _≤_, _<_}
 use mathlib.Core.Bool.{Bool, true, false, cond}
 use mathlib.Core.List.{List}
 use mathlib.Core.Path.{_≡_, refl, _∙_}
@@ -20,7 +20,7 @@ use Rattle.dispatch.specs.Promises.{TakenIsCharged}
 
 module _ (v : View) (onward : Parent → List ℕ → WalkEnd) (left : List ℕ) (i : ℕ) where
   -- after a choice node j's count is as the choice's charge left it, where the walk below the chosen node keeps it
-  follow-count : (j : ℕ) → getD (onward (Under i) (charge left i) .left) j 0 ≡ getD (charge left i) j 0 →
+  pub follow-count : (j : ℕ) → getD (onward (Under i) (charge left i) .left) j 0 ≡ getD (charge left i) j 0 →
       getD (follow v onward left (just i) .left) j 0 ≡ getD (charge left i) j 0
   unfolding follow
   follow-count j keeps = go (v .leaf i)

@@ -5,3 +5,4 @@ pub mod Run
 pub mod Reached
 pub mod Ready
 pub mod Promises
+pub mod Unused

@@ -1,19 +1,31 @@
--- What is promised of the choice, of steps and of runs. Why each holds is in proofs/. Assumes nothing.
-use Prim.Native.Nat.{ℕ, suc, _+_, _-_, _<_}
+-- What is promised of the choice, of counts, of steps and of runs. Why each holds is in proofs/. Assumes nothing.
+use Prim.Native.Nat.{ℕ, suc, _+_, _-_, _%_, _≤_, _<_}
 use mathlib.Core.Bool.{true, false}
 use mathlib.Core.List.{List, _++_}
 use mathlib.Core.Logic.{_↔_}
 use mathlib.Core.Path.{_≡_}
 use lib.ListN.{length, getD}
+use Rattle.plans.specs.Plan.{There}
 use Rattle.plans.specs.Sound.{Sound}
 use Rattle.plans.specs.declared.Parent.{Parent}
 use Rattle.plans.specs.declared.Parent.the-variants.{Supply}
 use Rattle.plans.specs.declared.Plan.{Plan}
-use Rattle.dispatch.specs.View.{View, viewOf}
+use Rattle.rules.specs.Fit.{Fit}
+use Rattle.dispatch.specs.View.{View, viewOf, servedC, bitOf}
 use Rattle.dispatch.specs.Choice.{nobody, just, eligible, choose, Chosen}
-use Rattle.dispatch.specs.Slot.{SlotEnd, walk, slot}
-use Rattle.dispatch.specs.Run.{done, said, Standing, Course, courseTo, stepped}
+use Rattle.dispatch.specs.Slot.{SlotEnd, refilled, walk, slot}
+use Rattle.dispatch.specs.Run.{done, refused, said, Standing, RunEnd, zeroState, started, Course, courseTo, stepped}
 use Rattle.dispatch.specs.declared.Outcome.{Outcome}
+
+-- node i may be taken under x
+pub record May (v : View) (left : List ℕ) (declines : ℕ) (x : Parent) (i : ℕ) : Type 0 where
+  pub child : v .parent i ≡ x
+  pub some : 0 < getD left i 0
+  pub willing : v .leaf i ≡ true → bitOf declines i ≡ false
+
+-- 01: "among its children with slots left, leaves that decline passed over": just these may be taken
+abbrev pub MayExactly : Type 0
+MayExactly = (v : View) (left : List ℕ) (declines : ℕ) (x : Parent) (i : ℕ) → (eligible v left declines x i ≡ true) ↔ May v left declines x i
 
 -- The choice is the one that document 01's sentence names, and there is nobody exactly when nobody may be taken.
 abbrev pub ChoiceExactly : Type 0
@@ -21,6 +33,30 @@ ChoiceExactly =
     (v : View) (left : List ℕ) (declines : ℕ) (x : Parent) →
     ((i : ℕ) → (choose v left declines x ≡ just i) ↔ Chosen v left declines x i) ×
     ((choose v left declines x ≡ nobody) ↔ ((j : ℕ) → j < v .size → eligible v left declines x j ≡ false))
+
+-- the counts after a refill at slot n, entry by entry: a node that is due has its served C, and whatever else is there, or past the last node, is as it was
+pub record RefilledAt (v : View) (n : ℕ) (left full : List ℕ) : Type 0 where
+  pub many : length full ≡ length left
+  pub due : (i : ℕ) → i < v .size → i < length left → n % v .t i ≡ 0 → getD full i 0 ≡ v .c i
+  pub kept : (i : ℕ) → i < v .size → (n % v .t i ≡ 0 → ⊥) → getD full i 0 ≡ getD left i 0
+  pub past : (i : ℕ) → v .size ≤ i → getD full i 0 ≡ getD left i 0
+
+-- 01: "At each slot whose number is a multiple of a node's served T, its left becomes its served C": leaf or host
+abbrev pub RefillExactly : Type 0
+RefillExactly = (v : View) (n : ℕ) (left : List ℕ) → RefilledAt v n left (refilled v n left)
+
+-- how a fresh start ends, entry by entry
+pub record FreshEnd (plan : Plan) (end : RunEnd) : Type 0 where
+  pub outcome : end .outcome ≡ done
+  pub clock : end .state .clock ≡ 0
+  pub many : length (end .state .left) ≡ 64
+  pub counts : (i : ℕ) → There plan i → getD (end .state .left) i 0 ≡ servedC plan i
+  pub past : (i : ℕ) → plan .size ≤ i → getD (end .state .left) i 0 ≡ 0
+
+-- 01: "Fresh: n = 0 and left = served C; an unfit plan value gives 16. Entries past the last node are 0 in a fresh state"
+abbrev pub FreshExactly : Type 0
+FreshExactly =
+    (plan : Plan) → (Fit plan → FreshEnd plan (started plan)) × ((Fit plan → ⊥) → started plan ≡ record { outcome = refused 16; state = zeroState })
 
 -- The walk never runs out of levels on a sound plan: more levels change nothing.
 abbrev pub EightLevels : Type 0

@@ -1,15 +1,26 @@
 -- Why the promises of specs/Promises.antt hold. Assumes nothing.
-use Prim.Native.Nat.{ℕ, _+_, _^_, _≤_, _<_}
+use Prim.Native.Nat.{ℕ, _+_, _/_, _%_, _^_, _≤_, _<_}
 use mathlib.Core.Bool.{Bool, true, false, cond}
 use mathlib.Core.Logic.{_⊎_, inl, inr}
 use mathlib.Core.Path.{_≡_, refl, sym, ap, _∙_}
-use native.Mathlib.Nat.{le-antisymm, le-refl}
+use native.Mathlib.Nat.{le-antisymm, le-refl, div-add-mod', mod-lt}
 use native.Mathlib.Decide.{decLe, decLt}
 use native.Mathlib.Omega.{arith}
 use lib.Dec.{leb}
 use borrow.Author.Tests.{le-leb, lt-leb}
 use Rattle.ticks.specs.Times.{isFit, begins, latest, Said, number, refused, said, limited, timed, SlotSays}
-use Rattle.ticks.specs.Promises.{GivenExactly, ClosedForm, OneSlot, InItsSlot, ThereAndBack, NeverFalls, SaidOnce, ClosedFormSaid, OneAnswer}
+use Rattle.ticks.specs.Promises.{
+  GivenExactly,
+  ClosedForm,
+  OneSlot,
+  InItsSlot,
+  InItsMinute,
+  ThereAndBack,
+  NeverFalls,
+  SaidOnce,
+  ClosedFormSaid,
+  OneAnswer,
+}
 use Rattle.ticks.specs.declared.Tick.{Tick}
 use Rattle.ticks.specs.declared.Answer.{Answer}
 use Rattle.ticks.specs.declared.Answer.the-variants.{Number, Beyond, Unfit}
@@ -24,7 +35,8 @@ given-exactly tick x v = record {
   within = λ h l m. rw (h, le-leb x (2 ^ 40) l, le-leb v (2 ^ 40) m);
 }
   where
-    go : (2 ^ 40 < x) ⊎ (2 ^ 40 < v) → Dec (x ≤ 2 ^ 40) → cond (leb x (2 ^ 40)) (cond (leb v (2 ^ 40)) (number v) (refused 15)) (refused 15) ≡ refused 15
+    go : (2 ^ 40 < x) ⊎ (2 ^ 40 < v) → Dec (x ≤ 2 ^ 40) →
+        cond (leb x (2 ^ 40)) (cond (leb v (2 ^ 40)) (number v) (refused 15)) (refused 15) ≡ refused 15
     go l (no h) = rw (lt-leb x (2 ^ 40) (omega arith))
     go (inl l) (yes h) = absurd (omega arith)
     go (inr l) (yes h) = rw (le-leb x (2 ^ 40) h, lt-leb v (2 ^ 40) l)
@@ -47,6 +59,12 @@ in-its-slot tick t n a = (a .before, go (decLt t (begins tick (n + 1))))
     go : Dec (t < begins tick (n + 1)) → t < begins tick (n + 1)
     go (yes h) = h
     go (no h) = absurd (let late : n + 1 ≤ n = a .greatest (n + 1) (omega arith) in omega arith)
+
+pub in-its-minute : InItsMinute
+in-its-minute v m e =
+    let floor : v / 60_000_000 ≡ m = cc in
+    let rest : v % 60_000_000 < 60_000_000 = mod-lt v (omega arith) in
+    omega (arith, div-add-mod' v 60_000_000)
 
 pub there-and-back : ThereAndBack
 unfolding begins

@@ -1,9 +1,9 @@
 -- What document 01, "Slot times", promises of the definitions in Times. Why each holds is in proofs/Kept.antt. Assumes nothing.
-use Prim.Native.Nat.{ℕ, _+_, _^_, _≤_, _<_}
+use Prim.Native.Nat.{ℕ, _+_, _*_, _^_, _≤_, _<_}
 use mathlib.Core.Bool.{true, false}
 use mathlib.Core.Logic.{_↔_, _⊎_}
 use mathlib.Core.Path.{_≡_}
-use Rattle.ticks.specs.Times.{isFit, begins, Latest, latest, Said, number, refused, said, timed, SlotSays}
+use Rattle.ticks.specs.Times.{isFit, begins, Latest, latest, Said, number, refused, said, timed, perMinute, SlotSays}
 use Rattle.ticks.specs.declared.Tick.{Tick}
 use Rattle.ticks.specs.declared.Answer.{Answer}
 
@@ -28,6 +28,11 @@ OneSlot = (tick : Tick) (t n m : ℕ) → Latest tick t n → Latest tick t m �
 -- a time lies in its slot: at or after the slot's start, and before the next one's
 abbrev pub InItsSlot : Type 0
 InItsSlot = (tick : Tick) (t n : ℕ) → Latest tick t n → (begins tick n ≤ t) × (t < begins tick (n + 1))
+
+-- 01: "its minute is that divided by 60,000,000, rounded down": a start lies in its minute, at or after the minute's first microsecond, and before the next
+-- one's
+abbrev pub InItsMinute : Type 0
+InItsMinute = (v m : ℕ) → perMinute (number v) ≡ number m → (m * 60_000_000 ≤ v) × (v < (m + 1) * 60_000_000)
 
 -- where slots are no shorter than a microsecond, the slot of a slot's start is that slot
 abbrev pub ThereAndBack : Type 0

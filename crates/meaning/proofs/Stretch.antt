@@ -79,7 +79,7 @@ pub earliest-are-zero : EarliestAreZero
 unfolding written
 earliest-are-zero C T s L n some = (
   (λ e.
-  let both = and-eq-true-iff (inside s L n) (ltb (earlier T s n) (T - C)) .0 (not-false _ e) in
-  (both .0, rw (earlier-counted T s L n some (both .0)) (ltb-true (earlier T s n) (T - C) (both .1)))),
+      let both = and-eq-true-iff (inside s L n) (ltb (earlier T s n) (T - C)) .0 (not-false _ e) in
+      (both .0, rw (earlier-counted T s L n some (both .0)) (ltb-true (earlier T s n) (T - C) (both .1)))),
   (λ h. rw (h .0, lt-ltb (earlier T s n) (T - C) (rw (earlier-counted T s L n some (h .0)) at (h .1)))),
 )

@@ -92,10 +92,13 @@ said-once Unfit Unfit e = refl
 
 pub closed-form-said : ClosedFormSaid
 unfolding timed
-closed-form-said tick t a = ((λ says. go (isFit tick) refl says), (λ e. record {
-  found = λ fits. (latest tick t, (closed-form tick t fits, e));
-  unfit = λ h. rw h at e;
-}))
+closed-form-said tick t a = (
+  (λ says. go (isFit tick) refl says),
+  (λ e. record {
+    found = λ fits. (latest tick t, (closed-form tick t fits, e));
+    unfit = λ h. rw h at e;
+  }),
+)
   where
     go : (b : Bool) → isFit tick ≡ b → SlotSays tick t a → a ≡ timed tick t (latest tick t)
     go true h says =

@@ -141,9 +141,9 @@ holding-alike gives giver wants wanted room m =
     (λ g w h. ((λ e. cc), (λ e. cc)))
     (λ g w h. (
       failing-by giver wanted room (firstShort gives giver wants wanted)
-      (λ x. x ≡ holds m → verdict.short (leastOnes gives giver wants wanted) ≡ verdict.holds m)
-      (λ e. never (cc))
-      (λ e. never (cc)),
+          (λ x. x ≡ holds m → verdict.short (leastOnes gives giver wants wanted) ≡ verdict.holds m)
+          (λ e. never (cc))
+          (λ e. never (cc)),
       (λ e. never (cc)),
     ))
 

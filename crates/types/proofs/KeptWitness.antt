@@ -102,18 +102,17 @@ module _ (gives : Kind) (giver : SlotType) (wants : Kind) (wanted : SlotType) (g
 
 -- a no always has its witness
 pub no-has-witness : NoHasWitness
-no-has-witness gives giver wants wanted g w not-so =
-    (
-      firstShort gives giver wants wanted,
-      onesFrom giver wanted (firstShort gives giver wants wanted),
-      _,
-      record {
-        first = first-failing gives wants wanted (bounds giver g) fewer;
-        stretch = refl;
-        shown = short-shown gives giver wants wanted g w fewer;
-        no-room = short-refused gives giver wants wanted g w fewer;
-      },
-    )
+no-has-witness gives giver wants wanted g w not-so = (
+  firstShort gives giver wants wanted,
+  onesFrom giver wanted (firstShort gives giver wants wanted),
+  _,
+  record {
+    first = first-failing gives wants wanted (bounds giver g) fewer;
+    stretch = refl;
+    shown = short-shown gives giver wants wanted g w fewer;
+    no-room = short-refused gives giver wants wanted g w fewer;
+  },
+)
   where
     go : (wanted .c ≤ leastOnes gives giver wants wanted) ⊎ (leastOnes gives giver wants wanted < wanted .c) → leastOnes gives giver wants wanted < wanted .c
     go (inl h) = absurd (not-so (holds-stands-in gives giver wants wanted g w (le-leb _ _ h)))

@@ -39,8 +39,8 @@ module _ (gives : Kind) (giver : SlotType) (wants : Kind) (wanted : SlotType) wh
     pub none-fewer : (α : Allocation) → Honours gives giver α → o ≤ ones α s (wanted .t)
     pub first : (z : ℕ) → z < s → Starts wants (wanted .t) z → (α : Allocation) → Honours gives giver α → wanted .c ≤ ones α z (wanted .t)
 
-  -- a buffer with room: the decision is that failure, its first n bytes become those of the written allocation from the stretch's first slot on, and
-  -- the bytes from n on are as they were
+  -- a buffer with room: the decision is that failure, the buffer's first n bytes become those of the written allocation from the stretch's first slot
+  -- on, and its bytes from n on are as they were
   pub record Shown (s o n : ℕ) (out : List ℕ) : Type 0 where
     pub answer : decided gives giver wants wanted (length out) ≡ decision.fails s o n
     pub long : length (outAfter gives giver wants wanted out) ≡ length out

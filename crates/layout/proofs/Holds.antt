@@ -21,12 +21,6 @@ pub holds-self : (s : List ℕ) → Holds s 0 s
 unfolding byteAt
 holds-self s = record { within = omega arith; bytes = λ j h. ap (λ k. getD s k 0) (zero-add j) }
 
--- and bytes that hold others from the front, and are no longer, are those
-pub holds-all : (s x : List ℕ) → Holds s 0 x → length s ≤ length x → s ≡ x
-unfolding byteAt
-holds-all s x h l =
-    ext-getD 0 s x (omega arith) (λ j m. ap (λ k. getD s k 0) (sym (zero-add j)) ∙ h .bytes j (omega arith))
-
 -- what is held is the part of the bytes there
 pub holds-part : (s : List ℕ) (k : ℕ) (x : List ℕ) → Holds s k x → take (length x) (drop k s) ≡ x
 unfolding byteAt

@@ -58,7 +58,7 @@ module _ (s : List ℕ) (plan : Plan) (names : List (List ℕ)) (file : FileOf s
 
 -- a file has one reading
 pub one-reading : OneReading
-one-reading s a b m n small file-a sound-a file-b sound-b = (
+one-reading s a b m n file-a sound-a file-b sound-b = (
   sym (file-plan s a m file-a sound-a) ∙ file-plan s b n file-b sound-b,
   sym (file-names s a m file-a) ∙ file-names s b n file-b,
 )
@@ -133,7 +133,7 @@ unfolding readPlan
 refuses-by-bytes s small = (
   λ h file.
       let (r, k, least, most, e) = h in
-      other file r k most (refused-by s small r k (said-refused (readAnswer s) r (at k) e)),
+      other file r k (omega arith) (refused-by s small r k (said-refused (readAnswer s) r (at k) e)),
   λ no-file. go no-file (checkBytes s) refl,
 )
   where
@@ -154,7 +154,12 @@ refuses-by-bytes s small = (
 -- bytes are refused by 10 at k exactly when the first k are the file of a sound value, and there are more
 pub left-over-exactly : LeftOverExactly
 unfolding readPlan
-left-over-exactly s small k = (λ e. go (refused-by s small 10 k (said-refused (readAnswer s) 10 (at k) e)), λ h. bytes-say s small 10 k (more h))
+left-over-exactly s small k = (
+  λ e.
+      let (file, longer) = go (refused-by s small 10 k (said-refused (readAnswer s) 10 (at k) e)) in
+      (file, omega arith),
+  λ h. bytes-say s small 10 k (more (h .0) (h .1)),
+)
   where
     go : (checkBytes s ≡ Refused 10 k) ⊎ (FileOf s (planOf s) (namesOf s) × Sound (planOf s) × FirstBrokenAt (planOf s) 10 k) →
         SoundFile (take k s) × (k < length s)
@@ -164,8 +169,8 @@ left-over-exactly s small k = (λ e. go (refused-by s small 10 k (said-refused (
         ((planOf s, namesOf s, file, sound-kept (planOf s) (spelled-sound s kept)), omega arith)
     go (inr h) = absurd (omega (arith, broken-range (planOf s) (h .1) 10 k (h .2) .0))
 
-    more : SoundFile (take k s) × (k < length s) → checkBytes s ≡ Refused 10 k
-    more ((plan, names, file, sound), longer) =
+    more : SoundFile (take k s) → k < length s → checkBytes s ≡ Refused 10 k
+    more (plan, names, file, sound) longer =
         let begins = part-begins s k plan names (omega arith) file in
         let ends : endAt s ≡ k = end-read s plan names begins ∙ sym (ap length (file .laid)) ∙ length-take-le k s (omega arith) in
         bytes-checked s ∙
@@ -202,7 +207,7 @@ refuses-at-place s small r p e = go p e
 -- a name is handed out as it was laid out
 pub names-placed : NamesPlaced
 unfolding nameOf nameIn planOf
-names-placed s plan names small file h i l =
+names-placed s plan names file h i l =
     let size : sizeOf s ≡ plan .size = ap (λ p. p .size) (file-plan s plan names file (h .sound)) in
     let here : i < sizeOf s = omega (arith, size) in
     rw (sym (accepts-true (readAnswer s) (fit-accepted s plan names file h)), lt-ltb i (sizeOf s) here)

@@ -1,5 +1,5 @@
 -- A plan of the greatest length fits, and its file, of 2,796 bytes, is accepted. Assumes nothing.
-use Prim.Native.Nat.{ℕ, zero, suc, _+_, _*_, _/_, _%_, _≤_, _<_}
+use Prim.Native.Nat.{ℕ, zero, suc, _*_, _/_, _%_, _≤_, _<_}
 use mathlib.Core.Bool.{Bool, true, false, cond}
 use mathlib.Core.List.{List, []}
 use mathlib.Core.Logic.{inl}
@@ -22,7 +22,7 @@ use Rattle.decode.proofs.Entries.{length-filled, filled-at}
 use Rattle.reader.specs.Read.{readPlan}
 use Rattle.layout.specs.Layout.{nameBytes, namePart, SoundNames}
 use Rattle.layout.specs.Promises.{FileOf}
-use Rattle.layout.specs.Longest.{every, once, leaf, longestPlan, longestName, longestNames, longestFile, LongestReached}
+use Rattle.layout.specs.Longest.{every, leaf, longestPlan, longestName, longestNames, longestFile, LongestReached}
 use Rattle.layout.proofs.Holds.{lays-end}
 use Rattle.layout.proofs.Laid.{plan-length}
 use Rattle.layout.proofs.AreBytes.{files-are-bytes}

@@ -61,7 +61,7 @@ RefusesAtPlace =
 -- A file has one reading.
 abbrev pub OneReading : Type 0
 OneReading =
-    (s : List ℕ) (a b : Plan) (m n : List (List ℕ)) → Bytes s → FileOf s a m → Sound a → FileOf s b n → Sound b →
+    (s : List ℕ) (a b : Plan) (m n : List (List ℕ)) → FileOf s a m → Sound a → FileOf s b n → Sound b →
     (a ≡ b) × (m ≡ n)
 
 -- The file of a sound value is a list of bytes.
@@ -71,7 +71,7 @@ FilesAreBytes = (s : List ℕ) (plan : Plan) (names : List (List ℕ)) → FileO
 -- A name that is handed out is the one that planBytes placed.
 abbrev pub NamesPlaced : Type 0
 NamesPlaced =
-    (s : List ℕ) (plan : Plan) (names : List (List ℕ)) → Bytes s → FileOf s plan names → Fit plan → (i : ℕ) → There plan i →
+    (s : List ℕ) (plan : Plan) (names : List (List ℕ)) → FileOf s plan names → Fit plan → (i : ℕ) → There plan i →
     nameOf s i ≡ getD names i []
 
 -- 01: "The longest plan has 2,796 bytes"

@@ -102,7 +102,7 @@ module _ (s : List ℕ) (plan : Plan) where
 names-short : (s : List ℕ) → Bytes s → readPlan s .answer ≡ Accepted → (i : ℕ) → i < readPlan s .plan .size → length (nameOf s i) ≤ 32
 names-short s bytes e i l =
     let file = accepted-file s bytes e in
-    rw (names-placed s (readPlan s .plan) (namesOf s) bytes file (accepted-fit s e) i l) (file .named .short i l)
+    rw (names-placed s (readPlan s .plan) (namesOf s) file (accepted-fit s e) i l) (file .named .short i l)
 
 -- 3,708 bytes always suffice
 pub text-most : (s : List ℕ) → Bytes s → length (text s) ≤ 3708

@@ -7,8 +7,7 @@ use borrow.Author.Tests.{lt-ltb, ltb-true}
 use native.Mathlib.Omega.{arith}
 use Rattle.plans.proofs.All.{left-true, right-true}
 use Rattle.plans.proofs.Depth.{DepthUpTo, has-depth}
-use Rattle.plans.proofs.Entries.{parent-of-child}
-use Rattle.plans.specs.Plan.{parentOf, isHost, isChild}
+use Rattle.plans.specs.Plan.{parentOf, isHost}
 use Rattle.plans.specs.Sound.{Allowed, supply, host, Sound, allows}
 use Rattle.plans.specs.declared.Parent.{Parent}
 use Rattle.plans.specs.declared.Parent.the-variants.{Supply, Node as Under}
@@ -54,10 +53,6 @@ module _ (plan : Plan) (sound : Sound plan) (i : ℕ) (below : i < plan .size) w
   pub supply-there : (s : ℕ) → parentOf plan i ≡ Supply s → s < plan .cores
   supply-there s e = allowed-supply plan i (rw e at (sound .parents i below))
 
-  -- and has a place in the array
-  pub supply-below : (s : ℕ) → parentOf plan i ≡ Supply s → s < 8
-  supply-below s e = omega (arith, supply-there s e, sound .eight-cores)
-
   -- the host that a node of a sound plan stands under is an earlier node
   pub host-earlier : (h : ℕ) → parentOf plan i ≡ Under h → h < i
   host-earlier h e = allowed-earlier plan i (rw e at (sound .parents i below))
@@ -69,7 +64,3 @@ module _ (plan : Plan) (sound : Sound plan) (i : ℕ) (below : i < plan .size) w
   -- and a virtual host
   pub host-hosts : (h : ℕ) → parentOf plan i ≡ Under h → isHost plan h ≡ true
   host-hosts h e = allowed-host plan i (rw e at (sound .parents i below))
-
-  -- a child's number is greater than its host's
-  pub child-later : (h : ℕ) → isChild plan (Under h) i ≡ true → h < i
-  child-later h e = host-earlier h (parent-of-child plan (Under h) i e)

@@ -5,7 +5,6 @@ use mathlib.Core.Path.{_≡_}
 use Rattle.answers.specs.Answers.{Place, accepted, refused, said}
 use Rattle.answers.specs.declared.Answer.{Answer}
 use Rattle.plans.specs.Plan.{zeroPlan}
-use Rattle.plans.specs.declared.Plan.{Plan}
 use Rattle.rules.specs.Fit.{Fit}
 use Rattle.reader.specs.Read.{readPlan}
 

@@ -1,7 +1,7 @@
 -- Reading a plan file field by field, with every refusal and its place: document 01, "The plan file", "Refusal numbers" and the order below them.
 -- Written from the table; that it accepts just the files of the plans that fit is the theorem of the crate `layout`. Assumes nothing.
 use Prim.Native.Nat.{ℕ, _+_}
-use mathlib.Core.Bool.{Bool, cond, _&&_}
+use mathlib.Core.Bool.{cond, _&&_}
 use mathlib.Core.List.{List, []}
 use lib.Dec.{leb, ltb, eqb}
 use lib.ListN.{length, take, drop}

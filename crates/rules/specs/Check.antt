@@ -1,9 +1,8 @@
 -- The check of rules 11 to 14 as the code is held to it, in document 01's order. That it answers by Fit and Broken is promised in Promises.
 -- Assumes nothing.
 use Prim.Native.Nat.{ℕ, suc, _%_}
-use mathlib.Core.Bool.{Bool, true, false, not, cond, _&&_, _||_}
+use mathlib.Core.Bool.{Bool, true, false, not, cond, _||_}
 use lib.Dec.{leb, eqb}
-use Rattle.meaning.specs.declared.Kind.{Kind}
 use Rattle.meaning.specs.declared.Kind.the-variants.{Aligned}
 use Rattle.types.specs.Verdict.{Said, holds, short, refused, judged}
 use Rattle.answers.specs.Answers.{accepts, first, test, each, nowhere}

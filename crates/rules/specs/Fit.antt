@@ -5,7 +5,6 @@ use mathlib.Core.Logic.{_⊎_}
 use mathlib.Core.Path.{_≡_}
 use Rattle.meaning.specs.Types.{StandsIn}
 use Rattle.meaning.specs.declared.SlotType.{SlotType}
-use Rattle.meaning.specs.declared.Kind.{Kind}
 use Rattle.meaning.specs.declared.Kind.the-variants.{Aligned}
 use Rattle.plans.specs.Plan.{There, parentOf, kindOf, wantedOf, servedOf, wantedAs, ownType, isChild}
 use Rattle.plans.specs.Sound.{Sound}

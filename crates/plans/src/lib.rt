@@ -12,14 +12,13 @@ pub use lookup::node_at;
 pub use lookup::own_type;
 pub use lookup::supply_at;
 pub use lookup::wanted_as;
+use meaning::SlotType;
 pub use soundness::is_count;
 pub use soundness::is_sound;
+use ticks::Tick;
 pub use tree::is_child;
 pub use tree::is_parent_allowed;
 pub use tree::is_within;
-
-use meaning::SlotType;
-use ticks::Tick;
 
 pub enum NodeKind {
     AlignedLeaf,

@@ -8,9 +8,11 @@ pub mod SlotsPast
 pub mod Charged
 pub mod Kept
 pub mod KeptUnused
+pub mod KeptRefusals
 pub mod Choosing
 pub mod Counting
 pub mod Walking
+pub mod Tested
 pub mod Refusals
 pub mod Copying
 pub mod Running

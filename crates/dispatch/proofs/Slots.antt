@@ -13,7 +13,17 @@ use Rattle.dispatch.specs.View.{View}
 use Rattle.dispatch.specs.Slot.{due, refillOne, refillTo, refilled, charge}
 
 module _ (v : View) (n : ℕ) where
-  -- a refill of node k leaves the others as they are,
+  -- a refill of node k gives it its served C where the slot is a multiple of its period,
+  refill-one-due : (left : List ℕ) (k : ℕ) → k < length left → n % v .t k ≡ 0 → getD (refillOne v n left k) k 0 ≡ v .c k
+  unfolding refillOne due
+  refill-one-due left k here now = rw (eq-eqb (n % v .t k) 0 now) (getD-set-same left k (v .c k) 0 here)
+
+  -- changes nothing where it is none,
+  refill-one-kept : (left : List ℕ) (k : ℕ) → (n % v .t k ≡ 0 → ⊥) → refillOne v n left k ≡ left
+  unfolding refillOne due
+  refill-one-kept left k kept = rw (ne-eqb (n % v .t k) 0 kept)
+
+  -- leaves the others as they are,
   refill-one-other : (left : List ℕ) (k i : ℕ) → (i ≡ k → ⊥) → getD (refillOne v n left k) i 0 ≡ getD left i 0
   unfolding refillOne
   refill-one-other left k i other = go (due v n k)
@@ -21,16 +31,6 @@ module _ (v : View) (n : ℕ) where
       go : (b : Bool) → getD (cond b (set left k (v .c k)) left) i 0 ≡ getD left i 0
       go true = getD-set-other left k i (v .c k) 0 other
       go false = refl
-
-  -- changes nothing where the slot is no multiple of k's period,
-  refill-one-kept : (left : List ℕ) (k : ℕ) → (n % v .t k ≡ 0 → ⊥) → refillOne v n left k ≡ left
-  unfolding refillOne due
-  refill-one-kept left k kept = rw (ne-eqb (n % v .t k) 0 kept)
-
-  -- gives k its served C where it is,
-  refill-one-due : (left : List ℕ) (k : ℕ) → k < length left → n % v .t k ≡ 0 → getD (refillOne v n left k) k 0 ≡ v .c k
-  unfolding refillOne due
-  refill-one-due left k here now = rw (eq-eqb (n % v .t k) 0 now) (getD-set-same left k (v .c k) 0 here)
 
   -- and keeps the number of counts
   length-refill-one : (left : List ℕ) (k : ℕ) → length (refillOne v n left k) ≡ length left
@@ -71,17 +71,17 @@ module _ (v : View) (n : ℕ) where
     -- a refill keeps the number of counts
     pub length-refilled : length (refilled v n left) ≡ length left
     unfolding refilled
-    length-refilled = length-refill-to left (v .size)
+    length-refilled = length-refill-to left _
 
-    -- a node whose period begins at this slot has its served C
-    pub refilled-due : (i : ℕ) → i < v .size → i < length left → n % v .t i ≡ 0 → getD (refilled v n left) i 0 ≡ v .c i
-    unfolding refilled
-    refilled-due i l here now = refill-to-due left i (v .size) here now l
-
-    -- any other is kept
+    -- what is no node, or not due, is kept
     pub refilled-kept : (i : ℕ) → (i < v .size → n % v .t i ≡ 0 → ⊥) → getD (refilled v n left) i 0 ≡ getD left i 0
     unfolding refilled
     refilled-kept i kept = refill-to-else left i (v .size) kept
+
+    -- and a node whose period begins at this slot has its served C
+    pub refilled-due : (i : ℕ) → i < v .size → i < length left → n % v .t i ≡ 0 → getD (refilled v n left) i 0 ≡ v .c i
+    unfolding refilled
+    refilled-due i l here now = refill-to-due left i (v .size) here now l
 
 module _ (left : List ℕ) (i : ℕ) where
   -- a charge keeps the number of counts,

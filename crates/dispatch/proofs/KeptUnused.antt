@@ -19,7 +19,8 @@ use Rattle.dispatch.proofs.SlotsAlike.{SameCourse, fresh-alike, course-
 use Rattle.dispatch.proofs.SlotsPast.{course-kept}
 use Rattle.dispatch.specs.View.{viewOf, isLeaf, servedC, servedT}
 use Rattle.dispatch.specs.Slot.{unsupplied}
-use Rattle.dispatch.specs.Run.{Said, done, refused, Standing, Course, started, leftWithin, ready, roomy, outcome, courseTo, course, stateBy, outBy, ran, outAfter, stepped}
+use Rattle.dispatch.specs.Run.{Said, done, refused, Standing, Course, started, leftWithin, ready, roomy, outcome, courseTo, course, stateBy}
+use Rattle.dispatch.specs.Run.{outBy, ran, outAfter, stepped}
 use Rattle.dispatch.specs.Unused.{SameState, SameSupply, SameDeclines, Asked, SameAsked, FreshIgnores, RunIgnores, StepIgnores, RunHandsBack, StepHandsBack}
 
 module _ (a b : Plan) (agree : Agree a b) where

@@ -21,6 +21,7 @@ use Rattle.plans.specs.Sound.{all, sound}
 use Rattle.plans.specs.declared.Plan.{Plan}
 use Rattle.rules.specs.Check.{rules, checked, isFit}
 use Rattle.dispatch.proofs.Counting.{size-most}
+use Rattle.dispatch.proofs.Tested.{none}
 use Rattle.dispatch.specs.View.{viewOf}
 use Rattle.dispatch.specs.Run.{done, refused, said, Standing, standing, freshLeft, started, leftWithin, ready, roomy, inTime, outcome}
 use Rattle.dispatch.specs.declared.Outcome.{Outcome}
@@ -141,13 +142,7 @@ Refusal o = OneOf (1 ∷ 2 ∷ 3 ∷ []) (tagOf the-type o)
 pub done-tests : (plan : Plan) (state : Standing) (k declines room : ℕ) → outcome plan state k declines room ≡ done →
     (ready plan state ≡ true) × (roomy plan k declines room ≡ true) × (inTime (state .clock) k ≡ true)
 unfolding outcome
-done-tests plan state k declines room = go (ready plan state) (roomy plan k declines room) (inTime (state .clock) k)
-  where
-    go : (a b c : Bool) → cond a (cond b (cond c done (refused 15)) (refused 17)) (refused 16) ≡ done → (a ≡ true) × (b ≡ true) × (c ≡ true)
-    go true true true h = (refl, refl, refl)
-    go true true false h = (refl, refl, cc)
-    go true false c h = (refl, cc, cc)
-    go false b c h = (cc, cc, cc)
+done-tests plan state k declines room = none (ready plan state) (roomy plan k declines room) (inTime (state .clock) k) .0
 
 module _ (plan : Plan) (state : State) (k declines room : ℕ) (o : Outcome) (e : said o ≡ outcome plan (standing state) k declines room) (ends : o ≡ Done) where
   -- so has one of which the code says so

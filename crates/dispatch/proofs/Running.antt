@@ -15,7 +15,7 @@ use Rattle.plans.specs.Sound.{sound}
 use Rattle.plans.specs.declared.Plan.{Plan}
 use Rattle.dispatch.proofs.Counting.{cores-most}
 use Rattle.dispatch.proofs.Refusals.{Refusal}
-use Rattle.dispatch.proofs.Slots.{length-grants, slot-past}
+use Rattle.dispatch.proofs.SlotsLengths.{length-grants, slot-past}
 use Rattle.dispatch.specs.View.{View, viewOf}
 use Rattle.dispatch.specs.Slot.{SlotEnd, slotEnd, slot, unsupplied}
 use Rattle.dispatch.specs.Run.{said, Standing, standing, outcome, Course, courseTo, course, stateBy, outBy, ran, outAfter, stepped}
@@ -44,16 +44,17 @@ module _ (v : View) (cores n : ℕ) (supplies declines start d : List ℕ) where
   unfolding courseTo
   give-none = record { counts = refl; buffer = rw (zero-mul cores) }
 
-  -- each slot has an answer for each core
+  -- a slot has an answer for each core
+  length-one : cores ≤ 8 → (m supplied declined : ℕ) (left : List ℕ) → length (take cores (slot v cores m supplied declined left .grants)) ≡ cores
+  length-one few m supplied declined left =
+      length-take-le cores (slot v cores m supplied declined left .grants) (omega (arith, length-grants v declined supplied cores m left))
+
+  -- and so has each of a run
   pub length-answers : cores ≤ 8 → (i : ℕ) → length (courseTo v cores n supplies declines start i .answers) ≡ i * cores
   unfolding courseTo
   length-answers few zero = sym (zero-mul cores)
   length-answers few (suc i) =
-      let so = courseTo v cores n supplies declines start i in
-      let grants = slot v cores (n + i) (getD supplies i 0) (getD declines i 0) (so .left) .grants in
-      let eight : length grants ≡ 8 = length-grants v (getD declines i 0) (getD supplies i 0) cores (n + i) (so .left) in
-      length-append (so .answers) (take cores grants)
-      ∙ rw (length-answers few i, length-take-le cores grants (omega arith), suc-mul i cores)
+      length-append (courseTo v cores n supplies declines start i .answers) _ ∙ rw (length-answers few i, length-one few, suc-mul i cores)
 
   module _ (few : cores ≤ 8) (k : ℕ) (room : k * cores ≤ length d) (left out : List ℕ) (i : ℕ) (so : Given left out i) where
     -- the buffer keeps its length

@@ -1,21 +1,29 @@
--- Laws of the counts in a slot, by elements: after a refill and after a charge; and how many there are after each part of a slot. Assumes nothing.
+-- Laws of the counts in a slot, by elements: after a refill and after a charge. Assumes nothing.
 use Prim.Native.Nat.{ℕ, zero, suc, _-_, _%_, _≤_, _<_}
 use mathlib.Core.Bool.{Bool, true, false, cond}
 use mathlib.Core.List.{List}
 use mathlib.Core.Path.{_≡_, refl, sym, _∙_}
-use lib.ListN.{length, getD, set, drop, replicate, length-set, List·getD-eq-default}
-use lib.Seq.{getD-set-same, getD-set-other, set-out, drop-set-lt}
+use lib.ListN.{length, getD, set, length-set, List·getD-eq-default}
+use lib.Seq.{getD-set-same, getD-set-other, set-out}
 use borrow.Author.Tests.{eq-eqb, ne-eqb}
 use native.Mathlib.Decide.{ℕ-discrete, decLt}
 use native.Mathlib.Omega.{arith}
-use Rattle.plans.specs.declared.Parent.{Parent}
-use Rattle.plans.specs.declared.Parent.the-variants.{Supply, Node as Under}
-use Rattle.dispatch.specs.View.{View, bitOf}
-use Rattle.dispatch.specs.Choice.{Pick, nobody, just, choose}
-use Rattle.dispatch.specs.Slot.{WalkEnd, SlotEnd, due, refillOne, refillTo, refilled, charge, follow, walk, granting, serveCore, serveTo, slot, unsupplied}
+use Rattle.plans.specs.declared.Parent.the-variants.{Node as Under}
+use Rattle.dispatch.specs.View.{View}
+use Rattle.dispatch.specs.Slot.{due, refillOne, refillTo, refilled, charge}
 
 module _ (v : View) (n : ℕ) where
-  -- a refill of node k leaves the others as they are,
+  -- a refill of node k gives it its served C where the slot is a multiple of its period,
+  refill-one-due : (left : List ℕ) (k : ℕ) → k < length left → n % v .t k ≡ 0 → getD (refillOne v n left k) k 0 ≡ v .c k
+  unfolding refillOne due
+  refill-one-due left k here now = rw (eq-eqb (n % v .t k) 0 now) (getD-set-same left k (v .c k) 0 here)
+
+  -- changes nothing where it is none,
+  refill-one-kept : (left : List ℕ) (k : ℕ) → (n % v .t k ≡ 0 → ⊥) → refillOne v n left k ≡ left
+  unfolding refillOne due
+  refill-one-kept left k kept = rw (ne-eqb (n % v .t k) 0 kept)
+
+  -- leaves the others as they are,
   refill-one-other : (left : List ℕ) (k i : ℕ) → (i ≡ k → ⊥) → getD (refillOne v n left k) i 0 ≡ getD left i 0
   unfolding refillOne
   refill-one-other left k i other = go (due v n k)
@@ -23,16 +31,6 @@ module _ (v : View) (n : ℕ) where
       go : (b : Bool) → getD (cond b (set left k (v .c k)) left) i 0 ≡ getD left i 0
       go true = getD-set-other left k i (v .c k) 0 other
       go false = refl
-
-  -- changes nothing where the slot is no multiple of k's period,
-  refill-one-kept : (left : List ℕ) (k : ℕ) → (n % v .t k ≡ 0 → ⊥) → refillOne v n left k ≡ left
-  unfolding refillOne due
-  refill-one-kept left k kept = rw (ne-eqb (n % v .t k) 0 kept)
-
-  -- gives k its served C where it is,
-  refill-one-due : (left : List ℕ) (k : ℕ) → k < length left → n % v .t k ≡ 0 → getD (refillOne v n left k) k 0 ≡ v .c k
-  unfolding refillOne due
-  refill-one-due left k here now = rw (eq-eqb (n % v .t k) 0 now) (getD-set-same left k (v .c k) 0 here)
 
   -- and keeps the number of counts
   length-refill-one : (left : List ℕ) (k : ℕ) → length (refillOne v n left k) ≡ length left
@@ -73,17 +71,17 @@ module _ (v : View) (n : ℕ) where
     -- a refill keeps the number of counts
     pub length-refilled : length (refilled v n left) ≡ length left
     unfolding refilled
-    length-refilled = length-refill-to left (v .size)
+    length-refilled = length-refill-to left _
 
-    -- a node whose period begins at this slot has its served C
-    pub refilled-due : (i : ℕ) → i < v .size → i < length left → n % v .t i ≡ 0 → getD (refilled v n left) i 0 ≡ v .c i
-    unfolding refilled
-    refilled-due i l here now = refill-to-due left i (v .size) here now l
-
-    -- any other is kept
+    -- what is no node, or not due, is kept
     pub refilled-kept : (i : ℕ) → (i < v .size → n % v .t i ≡ 0 → ⊥) → getD (refilled v n left) i 0 ≡ getD left i 0
     unfolding refilled
     refilled-kept i kept = refill-to-else left i (v .size) kept
+
+    -- and a node whose period begins at this slot has its served C
+    pub refilled-due : (i : ℕ) → i < v .size → i < length left → n % v .t i ≡ 0 → getD (refilled v n left) i 0 ≡ v .c i
+    unfolding refilled
+    refilled-due i l here now = refill-to-due left i (v .size) here now l
 
     -- and past the counts there is nothing to refill
     pub refilled-past : (i : ℕ) → length left ≤ i → getD (refilled v n left) i 0 ≡ getD left i 0
@@ -111,78 +109,3 @@ module _ (left : List ℕ) (i : ℕ) where
   pub charge-other : (j : ℕ) → (j ≡ i → ⊥) → getD (charge left i) j 0 ≡ getD left j 0
   unfolding charge
   charge-other j other = getD-set-other left i j (getD left i 0 - 1) 0 other
-
-module _ (v : View) (declines : ℕ) where
-  -- what follows a choice keeps the number of counts, where the walk below a host does
-  length-follow : (onward : Parent → List ℕ → WalkEnd) → ((x : Parent) (left : List ℕ) → length (onward x left .left) ≡ length left) →
-      (left : List ℕ) (w : Pick) → length (follow v onward left w .left) ≡ length left
-  unfolding follow
-  length-follow onward keeps left nobody = refl
-  length-follow onward keeps left (just i) = go (v .leaf i)
-    where
-      go : (b : Bool) → length (cond b (record { grant = i; left = charge left i }) (onward (Under i) (charge left i)) .left) ≡ length left
-      go true = length-charge left i
-      go false = keeps (Under i) (charge left i) ∙ length-charge left i
-
-  -- a walk keeps the number of counts
-  pub length-walk : (levels : ℕ) (x : Parent) (left : List ℕ) → length (walk v declines levels x left .left) ≡ length left
-  unfolding walk
-  length-walk zero x left = refl
-  length-walk (suc levels) x left = length-follow (walk v declines levels) (length-walk levels) left (choose v left declines x)
-
-  module _ (supplied : ℕ) where
-    -- serving a core keeps the number of counts and of answers
-    length-core : (so : SlotEnd) (s : ℕ) →
-        (length (serveCore v supplied declines so s .left) ≡ length (so .left)) × (length (serveCore v supplied declines so s .grants) ≡ length (so .grants))
-    unfolding serveCore granting
-    length-core so s = go (bitOf supplied s)
-      where
-        w : WalkEnd
-        w = walk v declines 8 (Supply s) (so .left)
-
-        go : (b : Bool) →
-            (length (cond b (granting so s w) so .left) ≡ length (so .left)) × (length (cond b (granting so s w) so .grants) ≡ length (so .grants))
-        go true = (length-walk 8 (Supply s) (so .left), length-set (so .grants) s (w .grant))
-        go false = (refl, refl)
-
-    -- and so does serving the first k cores
-    length-serve : (so : SlotEnd) (k : ℕ) →
-        (length (serveTo v supplied declines so k .left) ≡ length (so .left)) × (length (serveTo v supplied declines so k .grants) ≡ length (so .grants))
-    unfolding serveTo
-    length-serve so zero = (refl, refl)
-    length-serve so (suc k) =
-        let core = length-core (serveTo v supplied declines so k) k in
-        let before = length-serve so k in
-        (core .0 ∙ before .0, core .1 ∙ before .1)
-
-    -- the answers past the first k cores are as they were
-    grants-past : (so : SlotEnd) (k : ℕ) → drop k (serveTo v supplied declines so k .grants) ≡ drop k (so .grants)
-    unfolding serveTo serveCore granting
-    grants-past so k = later k k (omega arith)
-      where
-        core-past : (at : SlotEnd) (s m : ℕ) → s < m → drop m (serveCore v supplied declines at s .grants) ≡ drop m (at .grants)
-        core-past at s m l = go (bitOf supplied s)
-          where
-            go : (b : Bool) → drop m (cond b (granting at s (walk v declines 8 (Supply s) (at .left))) at .grants) ≡ drop m (at .grants)
-            go true = drop-set-lt m (at .grants) s (walk v declines 8 (Supply s) (at .left) .grant) l
-            go false = refl
-
-        later : (j m : ℕ) → j ≤ m → drop m (serveTo v supplied declines so j .grants) ≡ drop m (so .grants)
-        later zero m l = refl
-        later (suc j) m l = core-past (serveTo v supplied declines so j) j m (omega arith) ∙ later j m (omega arith)
-
-    module _ (cores n : ℕ) (left : List ℕ) where
-      -- past the last core a slot answers 255
-      pub slot-past : drop cores (slot v cores n supplied declines left .grants) ≡ drop cores (replicate 8 unsupplied)
-      unfolding slot
-      slot-past = grants-past (record { grants = replicate 8 unsupplied; left = refilled v n left }) cores
-
-      -- a slot keeps the number of counts
-      pub length-slot : length (slot v cores n supplied declines left .left) ≡ length left
-      unfolding slot
-      length-slot = length-serve (record { grants = replicate 8 unsupplied; left = refilled v n left }) cores .0 ∙ length-refilled v n left
-
-      -- and has eight answers
-      pub length-grants : length (slot v cores n supplied declines left .grants) ≡ 8
-      unfolding slot
-      length-grants = length-serve (record { grants = replicate 8 unsupplied; left = refilled v n left }) cores .1

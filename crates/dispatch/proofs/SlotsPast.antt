@@ -9,7 +9,7 @@ use Rattle.plans.specs.declared.Parent.{Parent}
 use Rattle.plans.specs.declared.Parent.the-variants.{Supply, Node as Under}
 use Rattle.dispatch.proofs.Choices.{choice-below}
 use Rattle.dispatch.proofs.Slots.{refilled-kept, charge-other}
-use Rattle.dispatch.proofs.SlotsTaken.{follow-count}
+use Rattle.dispatch.proofs.Charged.{follow-count}
 use Rattle.dispatch.specs.View.{View, bitOf}
 use Rattle.dispatch.specs.Choice.{Pick, nobody, just, choose}
 use Rattle.dispatch.specs.Slot.{SlotEnd, refilled, charge, follow, walk, granting, serveCore, serveTo, slot, unsupplied}

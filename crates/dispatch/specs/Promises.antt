@@ -1,5 +1,5 @@
--- What is promised of the choice, of counts, of steps and of runs. Why each holds is in proofs/. Assumes nothing.
-use Prim.Native.Nat.{ℕ, suc, _+_, _-_, _%_, _≤_, _<_}
+-- What is promised of the choice, of counts, of refusals, of steps and of runs. Why each holds is in proofs/. Assumes nothing.
+use Prim.Native.Nat.{ℕ, suc, _+_, _*_, _-_, _%_, _^_, _≤_, _<_}
 use mathlib.Core.Bool.{true, false}
 use mathlib.Core.List.{List, _++_}
 use mathlib.Core.Logic.{_↔_}
@@ -14,7 +14,7 @@ use Rattle.rules.specs.Fit.{Fit}
 use Rattle.dispatch.specs.View.{View, viewOf, servedC, bitOf}
 use Rattle.dispatch.specs.Choice.{nobody, just, eligible, choose, Chosen}
 use Rattle.dispatch.specs.Slot.{SlotEnd, refilled, walk, slot}
-use Rattle.dispatch.specs.Run.{done, refused, said, Standing, RunEnd, zeroState, started, Course, courseTo, stepped}
+use Rattle.dispatch.specs.Run.{done, refused, said, Standing, RunEnd, zeroState, started, outcome, Course, courseTo, stepped}
 use Rattle.dispatch.specs.declared.Outcome.{Outcome}
 
 -- node i may be taken under x
@@ -63,6 +63,27 @@ abbrev pub EightLevels : Type 0
 EightLevels =
     (plan : Plan) → Sound plan → (declines more s : ℕ) (left : List ℕ) →
     walk (viewOf plan) declines (8 + more) (Supply s) left ≡ walk (viewOf plan) declines 8 (Supply s) left
+
+-- plan value and state are fit
+pub record Ready (plan : Plan) (state : Standing) : Type 0 where
+  pub fit : Fit plan
+  pub clock : state .clock ≤ 2 ^ 40
+  pub counts : (i : ℕ) → There plan i → getD (state .left) i 0 ≤ servedC plan i
+
+-- the inputs are equally long, and there is room for an answer of each core in each slot
+pub record Roomy (plan : Plan) (k declines room : ℕ) : Type 0 where
+  pub equal : k ≡ declines
+  pub enough : k * plan .cores ≤ room
+
+-- 01: "Refusals in order: 16 (a left over the node's served C, a clock over 2^40, or a plan value that breaks any of 2 to 7 and 11 to 14), 17 (unequal
+-- inputs or too little room), 15 (n + k over 2^40)": each is given exactly then, and otherwise the run is done
+abbrev pub RefusalsExactly : Type 0
+RefusalsExactly =
+    (plan : Plan) (state : Standing) (k declines room : ℕ) →
+    ((outcome plan state k declines room ≡ refused 16) ↔ (Ready plan state → ⊥)) ×
+    ((outcome plan state k declines room ≡ refused 17) ↔ (Ready plan state × (Roomy plan k declines room → ⊥))) ×
+    ((outcome plan state k declines room ≡ refused 15) ↔ (Ready plan state × Roomy plan k declines room × (2 ^ 40 < state .clock + k))) ×
+    ((outcome plan state k declines room ≡ done) ↔ (Ready plan state × Roomy plan k declines room × (state .clock + k ≤ 2 ^ 40)))
 
 -- A run of a + b slots is a run of a followed by a run of b.
 abbrev pub RunsJoin : Type 0

@@ -16,7 +16,7 @@ use Rattle.plans.specs.declared.Plan.{Plan}
 use Rattle.decode.proofs.Entries.{length-filled, filled-at}
 use Rattle.dispatch.specs.View.{viewOf, servedC}
 use Rattle.dispatch.specs.Run.{zeroState, freshLeft, courseTo}
-use Rattle.dispatch.proofs.Slots.{length-slot}
+use Rattle.dispatch.proofs.SlotsLengths.{length-slot}
 use Rattle.dispatch.proofs.SlotsFresh.{replicate-everywhere, length-fresh, fresh-count, fresh-past}
 use Rattle.dispatch.proofs.Ready.{each-course}
 use Rattle.numbers.specs.Numbers.{countIn, isCountAt, isState, stateIn, stateOfNumbers}

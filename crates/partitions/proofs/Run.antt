@@ -19,7 +19,7 @@ use Rattle.dispatch.specs.View.{viewOf}
 use Rattle.dispatch.specs.Slot.{unsupplied}
 use Rattle.dispatch.specs.Run.{freshState, course}
 use Rattle.dispatch.specs.Reached.{OneRun}
-use Rattle.dispatch.proofs.Slots.{length-grants}
+use Rattle.dispatch.proofs.SlotsLengths.{length-grants}
 use Rattle.dispatch.proofs.Reached.{reached-as-one}
 use Rattle.unending.specs.Unending.{leftAt, slotAt, answerAt, granted, answersTo}
 use Rattle.unending.proofs.Kept.{first-part}

@@ -14,7 +14,8 @@ use Rattle.plans.specs.declared.Parent.{Parent}
 use Rattle.plans.specs.declared.Parent.the-variants.{Supply, Node as Under}
 use Rattle.plans.specs.declared.Plan.{Plan}
 use Rattle.rules.specs.Fit.{Fit}
-use Rattle.dispatch.proofs.Slots.{length-slot, refilled-due, refilled-kept}
+use Rattle.dispatch.proofs.Slots.{refilled-due, refilled-kept}
+use Rattle.dispatch.proofs.SlotsLengths.{length-slot}
 use Rattle.dispatch.proofs.SlotsFresh.{length-fresh}
 use Rattle.dispatch.specs.View.{viewOf, servedC, servedT}
 use Rattle.dispatch.specs.Slot.{refilled, slot}

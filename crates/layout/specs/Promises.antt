@@ -74,7 +74,7 @@ NamesPlaced =
     (s : List ℕ) (plan : Plan) (names : List (List ℕ)) → FileOf s plan names → Fit plan → (i : ℕ) → There plan i →
     nameOf s i ≡ getD names i []
 
--- 01: "The longest plan has 2,796 bytes"
+-- 01: "The longest plan has 2,796 bytes": no accepted one has more, and Longest has one of so many
 abbrev pub LongestPlan : Type 0
 LongestPlan = (s : List ℕ) → said (readPlan s .answer) ≡ accepted → length s ≤ 2796
 

@@ -5,7 +5,7 @@ use mathlib.Core.List.{List, [], _∷_, _++_, append-assoc}
 use mathlib.Core.Path.{_≡_, refl, sym, ap, _∙_}
 use lib.ListN.{length, getD, drop, replicate, List·getD-append}
 use borrow.Author.Tests.{le-leb, eq-eqb, ne-eqb}
-use native.Mathlib.Nat.{le-refl, div-le-self, mul-le-mul, mul-le-mul-right, suc-mul}
+use native.Mathlib.Nat.{div-le-self, mul-le-mul, mul-le-mul-right, suc-mul}
 use native.Mathlib.Omega.{arith}
 use mir.Syntax.{w64}
 use mir.Val.{Fits}
@@ -14,16 +14,15 @@ use Rattle.ticks.specs.Times.{isFit as isFitTick, begins, number, said, limited
 use Rattle.ticks.specs.declared.Tick.{Tick}
 use Rattle.ticks.specs.declared.Answer.{Answer}
 use Rattle.ticks.specs.declared.Answer.the-variants.{Number, Beyond, Unfit}
-use Rattle.plans.proofs.All.{all-true}
 use Rattle.plans.proofs.Kept.{sound-kept}
-use Rattle.plans.specs.Sound.{Sound, all, sound}
+use Rattle.plans.specs.Sound.{Sound, sound}
 use Rattle.plans.specs.declared.Plan.{Plan}
 use Rattle.rules.specs.Check.{isFit}
 use Rattle.dispatch.proofs.Refusals.{fits-sound}
 use Rattle.dispatch.proofs.Running.{length-answers}
-use Rattle.dispatch.proofs.SlotsFresh.{fresh-count}
-use Rattle.dispatch.specs.View.{viewOf, servedC}
-use Rattle.dispatch.specs.Run.{done, Standing, standing, runEnd, freshLeft, freshState, started, leftWithin, ready, roomy, inTime, outcome, course, outAfter}
+use Rattle.dispatch.proofs.Ready.{fresh-ready}
+use Rattle.dispatch.specs.View.{viewOf}
+use Rattle.dispatch.specs.Run.{done, standing, runEnd, freshState, started, ready, roomy, inTime, outcome, course, outAfter}
 use Rattle.dispatch.specs.declared.Ran.{Ran}
 use Rattle.listing.proofs.Pages.{put-then, lays-ext, room-first, room-then, room-byte}
 use Rattle.listing.specs.Page.{Put}
@@ -76,19 +75,13 @@ module _ (plan : Plan) (fitting : isFit plan ≡ true) where
   fresh-given = rw fitting
 
   -- and its state is fit
-  fresh-ready : ready plan (freshState plan) ≡ true
-  unfolding ready leftWithin servedC
-  fresh-ready =
-      rw (
-        fitting,
-        all-true (leftWithin plan (freshLeft (viewOf plan))) (plan .size)
-            (λ i l. rw (fresh-count (viewOf plan) i (omega (arith, kept .sixty-four-nodes)) l) (le-leb (servedC plan i) (servedC plan i) (le-refl _))),
-      )
+  given-ready : ready plan (freshState plan) ≡ true
+  given-ready = rw (ap (λ r. r .state) fresh-given) at (fresh-ready plan (ap (λ r. r .outcome) fresh-given))
 
   -- so the run is done,
   run-done : outcome plan (freshState plan) 8 8 64 ≡ done
   unfolding outcome roomy inTime
-  run-done = rw (fresh-ready, le-leb (8 * plan .cores) 64 (omega (arith, kept .eight-cores)))
+  run-done = rw (given-ready, le-leb (8 * plan .cores) 64 (omega (arith, kept .eight-cores)))
 
   -- and the buffer has its answers in front
   pub slots-given : (f : Ran) → runEnd f ≡ started plan → (out after : List ℕ) → length out ≡ 64 →

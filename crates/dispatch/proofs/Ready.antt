@@ -42,6 +42,7 @@ use Rattle.dispatch.specs.Run.{
   stepped,
 }
 use Rattle.dispatch.specs.Ready.{FreshReady, RunReady, StepReady}
+
 -- what holds of every node's count
 abbrev pub Each : (ℕ → ℕ → Type 0) → List ℕ → Type 0
 Each P left = (i : ℕ) → P i (getD left i 0)

@@ -26,7 +26,8 @@
  * own; what is only read (bytes, a plan value, supplies, declines) may be the same for all.
  *
  * Stack, in bytes, as measured on plans of 64 nodes in eight levels and rounded up, not proved: a step and a run take 24,200, a read 8,800, a name 8,000, a
- * fresh start 5,500, a decision and a slot time 200 (docs/PERFORMANCE.md says how it is measured). No function takes memory in any other way.
+ * fresh start 5,500, a decision 200 (docs/PERFORMANCE.md says how it is measured); a slot time takes too little to show. No function takes memory in any other
+ * way.
  *
  * What a call costs: every name reads and checks the whole plan anew, as a read does, so keep what it answers. Every fresh start, step and run checks the whole
  * plan value anew. For all but the smallest plans that is most of a step, and a run does it once for all its slots: give out many slots by one run where

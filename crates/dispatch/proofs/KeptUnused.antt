@@ -21,7 +21,7 @@ use Rattle.dispatch.specs.View.{viewOf, isLeaf, servedC, servedT}
 use Rattle.dispatch.specs.Slot.{unsupplied}
 use Rattle.dispatch.specs.Run.{Said, done, refused, Standing, Course, started, leftWithin, ready, roomy, outcome, courseTo, course, stateBy}
 use Rattle.dispatch.specs.Run.{outBy, ran, outAfter, stepped}
-use Rattle.dispatch.specs.Unused.{SameState, SameSupply, SameDeclines, Asked, SameAsked, FreshIgnores, RunIgnores, StepIgnores, RunHandsBack, StepHandsBack}
+use Rattle.dispatch.specs.Unused.{SameState, SameSupply, SameDeclines, Asked, SameAsked, FreshIgnores, RunIgnores, StepIgnores, RunKeepsPast, StepKeepsPast}
 
 module _ (a b : Plan) (agree : Agree a b) where
   -- plan values that agree in all but unused entries are seen alike
@@ -124,9 +124,9 @@ step-ignores a b agree s t states supplied supplied' declines declines' bytes wo
     one P h (suc k) l = absurd (omega arith)
 
 -- a run hands back what stands past the last node
-pub run-hands-back : RunHandsBack
+pub run-keeps-past : RunKeepsPast
 unfolding ran course
-run-hands-back plan state supplies declines room i past =
+run-keeps-past plan state supplies declines room i past =
     go (outcome plan state (length supplies) (length declines) room)
   where
     go : (o : Said) → getD (stateBy o state (length supplies) (course plan state supplies declines) .left) i 0 ≡ getD (state .left) i 0
@@ -134,6 +134,6 @@ run-hands-back plan state supplies declines room i past =
     go (refused r) = refl
 
 -- and so does a step
-pub step-hands-back : StepHandsBack
+pub step-keeps-past : StepKeepsPast
 unfolding stepped
-step-hands-back plan state supplied declines i past = run-hands-back plan state (supplied ∷ []) (declines ∷ []) 8 i past
+step-keeps-past plan state supplied declines i past = run-keeps-past plan state (supplied ∷ []) (declines ∷ []) 8 i past

@@ -76,13 +76,13 @@ StepIgnores =
     SameStepEnd a (stepped a s supplied declines) (stepped b t supplied' declines')
 
 -- 01: "Entries past the last node are .. otherwise ignored and handed back": by a run, done or refused
-abbrev pub RunHandsBack : Type 0
-RunHandsBack =
+abbrev pub RunKeepsPast : Type 0
+RunKeepsPast =
     (plan : Plan) (state : Standing) (supplies declines : List ℕ) (room i : ℕ) → plan .size ≤ i →
     getD (ran plan state supplies declines room .state .left) i 0 ≡ getD (state .left) i 0
 
 -- and by a step
-abbrev pub StepHandsBack : Type 0
-StepHandsBack =
+abbrev pub StepKeepsPast : Type 0
+StepKeepsPast =
     (plan : Plan) (state : Standing) (supplied declines i : ℕ) → plan .size ≤ i →
     getD (stepped plan state supplied declines .state .left) i 0 ≡ getD (state .left) i 0

@@ -10,9 +10,10 @@ enum { NODES = 64, CORES = 8, DEPTH = 8, HOST = 2 };
 
 /* Parents are given as in a parent byte, and come before their children. */
 struct tree {
-    uint32_t cores, count;
+    uint32_t cores, count, deepest;
     uint8_t parent[NODES], depth[NODES], kind[NODES];
-    uint32_t ends[NODES]; /* how many nodes at or below this one have no child */
+    uint8_t is_end[NODES]; /* whether the node has no child */
+    uint32_t ends[NODES];  /* how many nodes at or below it have none */
 };
 
 static uint8_t leaf_kind(void)
@@ -34,12 +35,12 @@ static void hang_spine(struct tree *tree, uint8_t core, uint32_t depth, uint32_t
     uint8_t parent = core;
     for (uint32_t d = 1; d <= depth && tree->count < most; d++) {
         int ends = d == depth;
-        hang(tree, parent, (uint8_t)d, ends && !chance(15) ? leaf_kind() : HOST);
+        hang(tree, parent, (uint8_t)d, ends && !chance(30) ? leaf_kind() : HOST);
         parent = (uint8_t)(127 + tree->count);
     }
 }
 
-/* A node under any core or any host that may have children, mostly a deeper one of two. */
+/* A node under any core or any host that may have children, mostly the deepest of three. */
 static void hang_anywhere(struct tree *tree)
 {
     uint8_t parents[CORES + NODES], depths[CORES + NODES];
@@ -49,30 +50,42 @@ static void hang_anywhere(struct tree *tree)
         depths[count++] = 0;
     }
     for (uint32_t i = 0; i < tree->count; i++) {
-        if (tree->kind[i] != HOST || tree->depth[i] == DEPTH) continue;
+        if (tree->kind[i] != HOST || tree->depth[i] == tree->deepest) continue;
         parents[count] = (uint8_t)(128 + i);
         depths[count++] = tree->depth[i];
     }
-    uint32_t taken = (uint32_t)chance_below(count), other = (uint32_t)chance_below(count);
-    if (depths[other] > depths[taken] && chance(80)) taken = other;
-    hang(tree, parents[taken], (uint8_t)(depths[taken] + 1), chance(20) ? HOST : leaf_kind());
+    uint32_t taken = (uint32_t)chance_below(count);
+    for (int k = 0; k < 2; k++) {
+        uint32_t other = (uint32_t)chance_below(count);
+        if (depths[other] > depths[taken] && chance(80)) taken = other;
+    }
+    uint32_t depth = depths[taken] + 1u;
+    hang(tree, parents[taken], (uint8_t)depth, chance(depth == tree->deepest ? 40 : 20) ? HOST : leaf_kind());
+}
+
+/* Deeper ones more often, but no deeper than the tree is to be. */
+static uint32_t depth_of_spine(const struct tree *tree)
+{
+    uint32_t one = 1 + (uint32_t)chance_below(tree->deepest), other = 1 + (uint32_t)chance_below(tree->deepest);
+    return one > other ? one : other;
 }
 
 static void grow(struct tree *tree)
 {
-    uint32_t most = chance(50) ? NODES : 1 + (uint32_t)chance_below(NODES);
-    uint32_t depth = 1 + (uint32_t)chance_below(DEPTH), first;
-    int alike = chance(50);
+    uint32_t most = chance(50) ? NODES : 1 + (uint32_t)chance_below(NODES), first;
+    int alike = chance(40);
+    tree->deepest = chance(20) ? DEPTH : 1 + (uint32_t)chance_below(DEPTH);
     tree->count = 0;
-    tree->cores = 1 + (uint32_t)chance_below(CORES);
+    tree->cores = 1 + (uint32_t)chance_below(chance(15) ? 2 : CORES);
     first = (uint32_t)chance_below(tree->cores);
     for (uint32_t i = 0; i < tree->cores; i++) {
-        hang_spine(tree, (uint8_t)((first + i) % tree->cores), alike ? depth : 1 + (uint32_t)chance_below(DEPTH), most);
+        hang_spine(tree, (uint8_t)((first + i) % tree->cores), alike ? tree->deepest : depth_of_spine(tree), most);
     }
     while (tree->count < most) hang_anywhere(tree);
     memset(tree->ends, 0, sizeof tree->ends);
     for (uint32_t i = tree->count; i-- > 0;) {
-        if (tree->ends[i] == 0) tree->ends[i] = 1;
+        tree->is_end[i] = tree->ends[i] == 0;
+        if (tree->is_end[i]) tree->ends[i] = 1;
         if (tree->parent[i] >= 128) tree->ends[tree->parent[i] - 128] += tree->ends[i];
     }
 }
@@ -93,7 +106,7 @@ static struct periods make_periods(struct drafted_type own, uint32_t ends)
     while (periods.count < 12) {
         uint32_t last = periods.of[periods.count - 1], factor = factors[chance_below(8)];
         int needed = own.c > 0 && periods.room < ends;
-        if (!needed && (last * factor > 256 || !chance(25))) break;
+        if (!needed && (last * factor > 96 || !chance(25))) break;
         if (last * factor > 4096) factor = 2;
         if (last * factor > 4096) break;
         periods.of[periods.count++] = (uint16_t)(last * factor);
@@ -131,14 +144,14 @@ static struct drafted_type host_wants(struct drafted_type served)
 }
 
 /* How much of what is left a child gets that has so many ends below it: one for each at least, where there is enough, and as much for the children after it. A
- * leaf gets little more, so that what is deeper gets something too. */
-static uint32_t take_share(uint32_t left, uint32_t ends, uint32_t ends_after, int leaf)
+ * node without children gets little more, so that what is deeper gets something too. */
+static uint32_t take_share(uint32_t left, uint32_t ends, uint32_t ends_after, int is_end)
 {
     uint32_t most = left > ends_after ? left - ends_after : left > 0;
     if (chance(2)) return 0;
-    if (most <= ends || (ends_after == 0 && chance(50))) return most;
+    if (most <= ends || (ends_after == 0 && chance(is_end ? 20 : 50))) return most;
     uint32_t more = (uint32_t)chance_below(most - ends + 1);
-    return ends + (leaf ? more / 8 : chance(70) ? most - ends - more / 8 : more);
+    return ends + (is_end ? more / 8 : chance(85) ? most - ends - more / 8 : more);
 }
 
 /* Serves the parent's children, none of them more than is left, all of them something where there is enough. */
@@ -153,7 +166,7 @@ static void serve_children(struct draft *draft, const struct tree *tree, uint8_t
         struct drafted_node *node = &draft->nodes[i];
         if (tree->parent[i] != parent) continue;
         ends -= tree->ends[i];
-        uint32_t share = take_share(left, tree->ends[i], ends, tree->kind[i] != HOST);
+        uint32_t share = take_share(left, tree->ends[i], ends, tree->is_end[i]);
         left -= share;
         node->served = take_type(&periods, share);
         node->wanted = tree->kind[i] == HOST ? host_wants(node->served) : draft_wanted(node->served, tree->kind[i]);

@@ -91,13 +91,14 @@ static void break_plan(uint32_t number, uint32_t depth)
     if ((refused == 0) != (number == 9)) check_fail("a deep plan value that breaks one rule is fit");
 }
 
+/* Each rule at two depths in a round, and at all depths in four rounds. */
 static void deep_plans_broken(uint64_t rounds)
 {
     seen_kind("deep plans with one rule broken");
     for (uint64_t round = 0; round < rounds; round++) {
         break_plan(7, 8);
-        for (uint32_t depth = 1; depth <= 8; depth++) {
-            if (round % 4 == depth % 4) break_plan(9, depth);
+        for (uint32_t depth = 1 + (uint32_t)(round % 4); depth <= 8; depth += 4) {
+            break_plan(9, depth);
             for (uint32_t rule = 11; rule <= 14; rule++) break_plan(rule, depth);
         }
     }

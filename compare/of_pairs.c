@@ -138,6 +138,6 @@ void cases_of_pairs(uint64_t rounds)
     decisions_of_the_documents();
     all_small_pairs();
     pairs_at_the_edges();
-    pairs_of_any_size(rounds);
+    pairs_of_any_size(4 * rounds);
     malformed_pairs(rounds);
 }

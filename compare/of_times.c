@@ -18,7 +18,7 @@ void cases_of_times(uint64_t rounds)
         }
     }
     seen_kind("times around where answers pass 2^40 or a minute begins");
-    for (uint64_t round = 0; round < rounds; round++) {
+    for (uint64_t round = 0; round < 2 * rounds; round++) {
         uint64_t p = 1 + chance_below(chance(50) ? 1000000 : 50), q = 1 + chance_below(chance(50) ? 1000000 : 50);
         uint64_t time = chance(50) ? LAST + 1 : chance_below(10000) * 60000000;
         uint64_t slot = time * q / p, late = LAST * p / q;
@@ -28,7 +28,7 @@ void cases_of_times(uint64_t rounds)
         }
     }
     seen_kind("times by chance");
-    for (uint64_t round = 0; round < 4 * rounds; round++) {
+    for (uint64_t round = 0; round < 8 * rounds; round++) {
         check_times((uint32_t)chance_below(1000002), (uint32_t)chance_below(1000002), chance_bits() >> (23 + chance_below(41)), 1);
     }
 }

@@ -13,20 +13,14 @@ static struct inputs inputs;
 static uint8_t in_pieces[8 * MOST_SLOTS], whole[8 * MOST_SLOTS + 8];
 static uint32_t plan[METTULOS_PLAN];
 
-static void deep_plan(void)
+/* A deep plan and a state from which so many slots can be given, fresh or odd. */
+static void deep_plan(uint64_t *state, size_t slots)
 {
     struct draft draft;
     draft_deep(&draft);
     value_of(&draft, plan);
-}
-
-/* A state from which so many slots can be given. */
-static void any_state(uint64_t *state, size_t slots)
-{
-    if (chance(60)) {
-        if (check_fresh(plan, METTULOS_PLAN, state, METTULOS_STATE) != 0) check_fail("a deep plan value that should be sound is refused");
-        return;
-    }
+    if (check_fresh(plan, METTULOS_PLAN, state, METTULOS_STATE) != 0) check_fail("a deep plan value that should be sound is refused");
+    if (chance(60)) return;
     odd_state(plan, state);
     if (state[0] > LAST - slots) state[0] = LAST - slots - chance_below(2);
 }
@@ -63,15 +57,21 @@ static void go_in_turns(uint64_t *state)
     }
 }
 
+/* How many slots a round has. Thousands in one of eight; after as many rounds as the gate has, in one of sixty-four, because they take most of the time. */
+static size_t slots_of_round(uint64_t round)
+{
+    if (round % (round < 1000 ? 8 : 64) != 0) return 1 + chance_below(300);
+    return 1000 + chance_below(chance(20) ? MOST_SLOTS - 999 : 1000);
+}
+
 /* Runs and steps in turn, and one run over all their slots: the same answers and the same state. */
 static void turns(uint64_t rounds)
 {
     uint64_t by_turns[METTULOS_STATE], by_run[METTULOS_STATE];
     seen_kind("runs and steps in turn under deep plans, and one run over all of it");
     for (uint64_t round = 0; round < rounds; round++) {
-        size_t slots = round % 8 == 0 ? 1000 + chance_below(MOST_SLOTS - 999) : 1 + chance_below(200);
-        deep_plan();
-        any_state(by_turns, slots);
+        size_t slots = slots_of_round(round);
+        deep_plan(by_turns, slots);
         memcpy(by_run, by_turns, sizeof by_run);
         inputs_by_chance(&inputs, plan, slots);
         go_in_turns(by_turns);
@@ -88,10 +88,9 @@ static void deep_steps(uint64_t rounds)
     uint64_t state[METTULOS_STATE];
     seen_kind("steps under deep plans");
     for (uint64_t round = 0; round < rounds; round++) {
-        deep_plan();
-        any_state(state, 12);
-        inputs_by_chance(&inputs, plan, 12);
-        for (size_t at = 0; at < 12; at++) step(state, at);
+        deep_plan(state, 20);
+        inputs_by_chance(&inputs, plan, 20);
+        for (size_t at = 0; at < 20; at++) step(state, at);
     }
 }
 
@@ -103,8 +102,7 @@ static void last_slots(uint64_t rounds)
     seen_kind("the last slots under deep plans");
     for (uint64_t round = 0; round < rounds; round++) {
         size_t slots = 1 + chance_below(20);
-        deep_plan();
-        odd_state(plan, state);
+        deep_plan(state, slots);
         state[0] = LAST - slots;
         inputs_by_chance(&inputs, plan, slots);
         if (METTULOS_NUMBER(run(state, 0, slots + 1, whole, (slots + 1) * plan[2])) != 15) check_fail("a run goes past 2^40");
@@ -122,8 +120,7 @@ static void refused_turns(uint64_t rounds)
     seen_kind("runs and steps that deep plans refuse");
     for (uint64_t round = 0; round < rounds; round++) {
         size_t slots = 1 + chance_below(20);
-        deep_plan();
-        any_state(state, slots);
+        deep_plan(state, slots);
         inputs_by_chance(&inputs, plan, slots);
         if (METTULOS_NUMBER(run(state, 0, slots, whole, slots * plan[2] - 1)) != 17) check_fail("a run has too little room and goes on");
         uint32_t i = chance(20) ? plan[19] - 1 : (uint32_t)chance_below(plan[19]);

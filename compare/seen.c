@@ -10,10 +10,11 @@
 
 /* ---- how often is enough */
 
-/* A thousand of each: of faults that show in one of a hundred cases of a sort, a thousand such cases made by chance miss one in 23,000 (0.99 to the 1,000th).
- * Fewer rounds than the thousand of the gate must show each sort once a round. Long runs are asked for in the hundreds only, because each has thousands of slots
- * in it, which count by themselves; a slice that is NULL, too, because nothing but what goes with it is left to chance. */
-enum { ENOUGH = 1000, ENOUGH_LONG_RUNS = 100, ENOUGH_NULLS = 100 };
+/* A thousand of each: a fault that shows in one of a hundred cases of a sort is then missed once in 23,000 times (0.99 to the 1,000th), if the cases are made by
+ * chance. Fewer rounds than the thousand of the gate must show their share. Less is asked for where what is counted is split finely or is long: a rule broken at
+ * one depth (each rule has its thousand over all depths), a run of a thousand slots or more (whose slots count by themselves), a slice that is NULL (where little
+ * but what goes with it is left to chance). Of these a hundred: a fault that shows in one of ten is then missed once in 37,000 times. */
+enum { ENOUGH = 1000, ENOUGH_OF_A_PART = 100 };
 
 static uint64_t rounds_made;
 static int too_seldom;
@@ -33,12 +34,12 @@ static void print_row(const char *what, const uint64_t *counts, int first, int l
     for (int i = first; i <= last; i++) printf(" %d: %" PRIu64 "%s", i, counts[i], i < last ? "," : "\n");
 }
 
-static void want_row(const char *what, const uint64_t *counts, int first, int last)
+static void want_row(const char *what, const uint64_t *counts, int first, int last, uint64_t enough)
 {
     char of[16];
     for (int i = first; i <= last; i++) {
         snprintf(of, sizeof of, "%d", i);
-        want(what, of, counts[i], ENOUGH);
+        want(what, of, counts[i], enough);
     }
 }
 
@@ -146,7 +147,7 @@ static void want_calls(void)
         }
         for (int slice = 0; slice < slices[call]; slice++) {
             snprintf(of, sizeof of, "of %s (%s)", call_names[call], null_names[call][slice] ? null_names[call][slice] : "never");
-            want("NULL for a slice", of, by_null[call][slice], ENOUGH_NULLS);
+            want("NULL for a slice", of, by_null[call][slice], ENOUGH_OF_A_PART);
         }
     }
 }
@@ -287,10 +288,10 @@ static void report_plans(void)
     print_row("accepted plans by depth", plans_by_depth, 1, 8);
     printf("accepted plans of 64 nodes: %" PRIu64 "\n", plans_of_64);
     for (int rule = 0; rule < 4; rule++) print_row(names[rule], broken[rule], 1, 8);
-    want_row("an accepted plan with cores", plans_by_cores, 1, 8);
-    want_row("an accepted plan of depth", plans_by_depth, 1, 8);
+    want_row("an accepted plan with cores", plans_by_cores, 1, 8, ENOUGH);
+    want_row("an accepted plan of depth", plans_by_depth, 1, 8, ENOUGH);
     want("an accepted plan of 64 nodes", "", plans_of_64, ENOUGH);
-    for (int rule = 0; rule < 4; rule++) want_row(names[rule], broken[rule], 1, 8);
+    for (int rule = 0; rule < 4; rule++) want_row(names[rule], broken[rule], 1, 8, ENOUGH_OF_A_PART);
 }
 
 static void report_grants(void)
@@ -299,18 +300,18 @@ static void report_grants(void)
     for (int cores = 1; cores <= 8; cores++) {
         snprintf(what, sizeof what, "grants under %d core%s by depth", cores, cores > 1 ? "s" : "");
         print_row(what, granted[cores], 1, 8);
-        want_row(what, granted[cores], 1, 8);
+        want_row(what, granted[cores], 1, 8, ENOUGH);
     }
     print_row("grants to aligned leaves by depth", granted_kind[0], 1, 8);
     print_row("grants to sliding leaves by depth", granted_kind[1], 1, 8);
     print_row("grants by core", granted_core, 0, 7);
     print_row("grants by leaf", granted_leaf, 0, 63);
     print_row("grants where the supply is whole (0) or has C < T (1)", granted_scarce, 0, 1);
-    want_row("a grant to an aligned leaf of depth", granted_kind[0], 1, 8);
-    want_row("a grant to a sliding leaf of depth", granted_kind[1], 1, 8);
-    want_row("a grant of core", granted_core, 0, 7);
-    want_row("a grant to leaf", granted_leaf, 0, 63);
-    want_row("a grant where the supply is whole (0) or has C < T (1):", granted_scarce, 0, 1);
+    want_row("a grant to an aligned leaf of depth", granted_kind[0], 1, 8, ENOUGH);
+    want_row("a grant to a sliding leaf of depth", granted_kind[1], 1, 8, ENOUGH);
+    want_row("a grant of core", granted_core, 0, 7, ENOUGH);
+    want_row("a grant to leaf", granted_leaf, 0, 63, ENOUGH);
+    want_row("a grant where the supply is whole (0) or has C < T (1):", granted_scarce, 0, 1, ENOUGH);
 }
 
 static void report_idle(void)
@@ -319,9 +320,9 @@ static void report_idle(void)
     print_row("answers of no supply by core", missing_core, 0, 7);
     print_row("idle answers of steps by the depth of the last host charged (0: none)", idle_below, 0, 8);
     printf("idle answers of steps below a host without children: %" PRIu64 "\n", idle_without_children);
-    want_row("an idle answer of core", idle_core, 0, 7);
-    want_row("an answer of no supply of core", missing_core, 0, 7);
-    want_row("an idle step whose last charged host has depth", idle_below, 0, 8);
+    want_row("an idle answer of core", idle_core, 0, 7, ENOUGH);
+    want_row("an answer of no supply of core", missing_core, 0, 7, ENOUGH);
+    want_row("an idle step whose last charged host has depth", idle_below, 0, 8, ENOUGH);
     want("an idle step below a host without children", "", idle_without_children, ENOUGH);
 }
 
@@ -334,7 +335,7 @@ static void report_things(void)
     printf("slots: %" PRIu64 ", at 2^39 or later %" PRIu64 "; runs of %d slots or more: %" PRIu64 "\n", slots_given, slots_past_half, LONG_RUN, long_runs);
     printf("runs and steps with counts past the last node: %" PRIu64 "\n", odd_counts_kept);
     want("a slot at 2^39 or later", "", slots_past_half, ENOUGH);
-    want("a run of 1,000 slots or more", "", long_runs, ENOUGH_LONG_RUNS);
+    want("a run of 1,000 slots or more", "", long_runs, ENOUGH_OF_A_PART);
     want("a run or a step with counts past the last node", "", odd_counts_kept, ENOUGH);
     for (int thing = 0; thing < THINGS; thing++) {
         printf("%s: %" PRIu64 "\n", names[thing], things[thing]);

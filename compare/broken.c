@@ -36,7 +36,7 @@ static void serve_in(struct drafted_node *node, uint32_t t)
     else node->wanted = node->served;
 }
 
-/* The nodes from the first on that come after this one hang below a host of depth 8. */
+/* The node, of depth 8, becomes a host, and a later one hangs below it. */
 static int break_depth(struct draft *draft, uint32_t i)
 {
     if (i + 1u >= draft->node_count) return 0;

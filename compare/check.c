@@ -96,7 +96,8 @@ static const uint8_t *pattern(void)
     return bytes + from;
 }
 
-/* Three of four slices end right before a page, the others begin right after one; half of the empty ones are NULL. By chance, but not of the inputs' numbers. */
+/* Three of four slices end right before a page, the others begin right after one; half of the empty ones are NULL. By a chance of its own, so that the inputs
+ * do not depend on it. */
 static enum placement next_placement(size_t size)
 {
     static uint64_t turn;
@@ -147,8 +148,9 @@ static void print_difference(const struct twin *twin)
     const uint8_t *library = copy_in(twin, twin->library), *model = copy_in(twin, twin->model);
     size_t i = 0, all = twin->size + GUARD;
     while (i < all && library[i] == model[i]) i++;
+    long byte = (long)i - (long)slice_at(twin);
     if (i == all) printf("  %s: written before its first byte or after its last by both\n", twin->name);
-    else printf("  %s: byte %ld of %zu is %02x in the library's and %02x in the model's\n", twin->name, (long)i - (long)slice_at(twin), twin->size, library[i], model[i]);
+    else printf("  %s: byte %ld of %zu is %02x in the library's and %02x in the model's\n", twin->name, byte, twin->size, library[i], model[i]);
     print_bytes("the library leaves", library + slice_at(twin), twin->size);
     print_bytes("the model leaves", model + slice_at(twin), twin->size);
 }

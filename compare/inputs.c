@@ -113,7 +113,9 @@ void inputs_by_chance(struct inputs *inputs, const uint32_t *plan, size_t slots)
     for (size_t k = 0; k < slots + 8; k++) {
         if (chance_below(200) == 0) supplied = supply_density();
         if (chance_below(200) == 0) declined = decline_density();
-        inputs->supplies[k] = (uint8_t)((bits_of(supplied) & cores) | (bits_of(idle_bits) & ~cores));
-        inputs->declines[k] = (bits_of(declined) & leaves) | (bits_of(idle_bits) & ~leaves);
+        inputs->supplies[k] = (uint8_t)(bits_of(supplied) & cores);
+        inputs->supplies[k] |= (uint8_t)(bits_of(idle_bits) & ~cores);
+        inputs->declines[k] = bits_of(declined) & leaves;
+        inputs->declines[k] |= bits_of(idle_bits) & ~leaves;
     }
 }

@@ -32,8 +32,8 @@ struct inputs {
     uint64_t declines[MOST_SLOTS + 8];
 };
 
-/* All cores supplied, none, most, few or by chance, and the same of the leaves that decline; which of these it is changes now and then. Bits that name no supply
- * or no leaf of the plan are clear, set or set by chance. */
+/* All cores supplied, none, most, few or by chance, and the same of the leaves that decline; which of these it is changes now and then. Bits that name no
+ * supply or no leaf of the plan are clear, set or set by chance. */
 void inputs_by_chance(struct inputs *inputs, const uint32_t *plan, size_t slots);
 
 #endif

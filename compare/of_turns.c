@@ -125,8 +125,9 @@ static void refused_turns(uint64_t rounds)
         if (METTULOS_NUMBER(run(state, 0, slots, whole, slots * plan[2] - 1)) != 17) check_fail("a run has too little room and goes on");
         uint32_t i = chance(20) ? plan[19] - 1 : (uint32_t)chance_below(plan[19]);
         state[1 + i] = plan[20 + 6 * i + 4] + 1 + (chance(70) ? 0 : chance_bits() >> 32);
-        if (METTULOS_NUMBER(run(state, 0, slots, whole, slots * plan[2])) != 16) check_fail("a run takes more left than is served");
-        if (METTULOS_NUMBER(check_step(plan, METTULOS_PLAN, state, METTULOS_STATE, 255, 0, grants, 8)) != 16) check_fail("a step takes more left than is served");
+        uint64_t of_run = run(state, 0, slots, whole, slots * plan[2]);
+        uint64_t of_step = check_step(plan, METTULOS_PLAN, state, METTULOS_STATE, 255, 0, grants, 8);
+        if (METTULOS_NUMBER(of_run) != 16 || of_step != of_run) check_fail("a node has more left than it is served, and a slot is given");
     }
 }
 

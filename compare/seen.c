@@ -10,10 +10,11 @@
 
 /* ---- how often is enough */
 
-/* A thousand of each: a fault that shows in one of a hundred cases of a sort is then missed once in 23,000 times (0.99 to the 1,000th), if the cases are made by
- * chance. Fewer rounds than the thousand of the gate must show their share. Less is asked for where what is counted is split finely or is long: a rule broken at
- * one depth (each rule has its thousand over all depths), a run of a thousand slots or more (whose slots count by themselves), a slice that is NULL (where little
- * but what goes with it is left to chance). Of these a hundred: a fault that shows in one of ten is then missed once in 37,000 times. */
+/* A thousand of each: a fault that shows in one of a hundred cases of a sort, each by itself, is then missed once in 23,000 times (0.99 to the 1,000th). With
+ * fewer rounds than the thousand of the gate, their share of it. A hundred, with which a fault that shows in one of ten is missed once in 37,000 times, are
+ * enough where what is counted is long or split finely: a run of a thousand slots or more, whose slots count by themselves; a rule broken at one depth, where
+ * each rule has its thousand over all depths; calls that grant at one depth under one number of cores, whose grants have their thousand (those of one call are
+ * much alike, which is why the calls are counted too); a slice that is NULL, where little but what goes with it is left to chance. */
 enum { ENOUGH = 1000, ENOUGH_OF_A_PART = 100 };
 
 static uint64_t rounds_made;
@@ -127,8 +128,9 @@ static void report_calls(void)
             if (by_call[call][number] > 0) printf(", refused by %d %" PRIu64, number, by_call[call][number]);
         }
         printf("\n");
-        for (int slice = 0; slice < MOST_SLICES && null_names[call][slice]; slice++) {
-            printf("%s%s %" PRIu64, slice == 0 ? "  NULL for " : ", ", null_names[call][slice], by_null[call][slice]);
+        printf("  NULL for");
+        for (int slice = 0; slice < MOST_SLICES; slice++) {
+            if (null_names[call][slice]) printf(" %s: %" PRIu64 ";", null_names[call][slice], by_null[call][slice]);
         }
         printf("\n");
     }
@@ -206,6 +208,7 @@ void seen(enum thing thing)
 
 static uint64_t slots_given, slots_past_half, long_runs, odd_counts_kept;
 static uint64_t granted[9][9];      /* by the number of cores and the depth of the leaf */
+static uint64_t granting[9][9];     /* the calls with such a grant */
 static uint64_t granted_kind[2][9]; /* by the kind of the leaf and its depth */
 static uint64_t granted_core[8], granted_leaf[64], granted_scarce[2];
 static uint64_t idle_core[8], missing_core[8];
@@ -215,12 +218,13 @@ static uint64_t idle_without_children;
 /* The answers of some slots, and what stands past the last node. */
 static void see_answers(const uint32_t *plan, const struct places *places, const uint64_t *before, size_t slots, const uint8_t *out)
 {
-    uint32_t cores = plan[2];
+    uint32_t cores = plan[2], depths = 0; /* bit d where depth d was granted */
     for (size_t k = 0; k < slots * cores; k++) {
         uint32_t core = (uint32_t)(k % cores), leaf = out[k];
         if (leaf == IDLE) idle_core[core]++;
         else if (leaf == NOT_SUPPLIED) missing_core[core]++;
         else {
+            depths |= BIT(places->depth[leaf]);
             granted[cores][places->depth[leaf]]++;
             granted_kind[node_of(plan, leaf)[0] & 1][places->depth[leaf]]++;
             granted_core[core]++;
@@ -228,6 +232,7 @@ static void see_answers(const uint32_t *plan, const struct places *places, const
             granted_scarce[plan[AT_SUPPLIES + 2 * core] < plan[AT_SUPPLIES + 2 * core + 1]]++;
         }
     }
+    for (uint32_t depth = 1; depth <= 8; depth++) granting[cores][depth] += depths >> depth & 1;
     slots_given += slots;
     if (before[0] >= (uint64_t)1 << 39) slots_past_half += slots;
     for (uint32_t i = plan[AT_NODE_COUNT]; i < 64; i++) {
@@ -301,6 +306,9 @@ static void report_grants(void)
         snprintf(what, sizeof what, "grants under %d core%s by depth", cores, cores > 1 ? "s" : "");
         print_row(what, granted[cores], 1, 8);
         want_row(what, granted[cores], 1, 8, ENOUGH);
+        snprintf(what, sizeof what, "calls that grant under %d core%s by depth", cores, cores > 1 ? "s" : "");
+        print_row(what, granting[cores], 1, 8);
+        want_row(what, granting[cores], 1, 8, ENOUGH_OF_A_PART);
     }
     print_row("grants to aligned leaves by depth", granted_kind[0], 1, 8);
     print_row("grants to sliding leaves by depth", granted_kind[1], 1, 8);

@@ -1,6 +1,8 @@
-/* The calls in pairs, the disagreements, the counts. */
+/* The calls in pairs and the disagreements. */
 #include "check.h"
 #include "meaning.h"
+#include "pages.h"
+#include "seen.h"
 
 #include "../include/mettulos.h"
 #include "../model/model.h"
@@ -9,61 +11,6 @@
 #include <stdio.h>
 #include <stdlib.h>
 #include <string.h>
-
-/* ---- counts */
-
-enum { DECIDE, READ, NAME, FRESH, STEP, RUN, START, MINUTE, SLOT, CALLS };
-enum { REFUSALS = 18, MOST_KINDS = 40 };
-
-static const char *const call_names[CALLS] = {"decide", "read", "name", "fresh", "step", "run", "start", "minute", "slot"};
-static uint64_t by_call[CALLS][REFUSALS];
-
-static const char *kind_names[MOST_KINDS];
-static uint64_t by_kind[MOST_KINDS];
-static int kinds;
-
-void check_kind(const char *kind)
-{
-    if (kinds == MOST_KINDS) check_fail("more kinds of case than there is room to count");
-    kind_names[kinds++] = kind;
-}
-
-void check_count(void)
-{
-    by_kind[kinds - 1]++;
-}
-
-static uint64_t all_of(const uint64_t *counts)
-{
-    uint64_t sum = 0;
-    for (int number = 0; number < REFUSALS; number++) sum += counts[number];
-    return sum;
-}
-
-int check_report(void)
-{
-    uint64_t totals[REFUSALS] = {0}, cases = 0;
-    int never = 0;
-    for (int kind = 0; kind < kinds; kind++) {
-        printf("%10" PRIu64 "  %s\n", by_kind[kind], kind_names[kind]);
-        cases += by_kind[kind];
-    }
-    printf("%10" PRIu64 "  cases in all\n", cases);
-    for (int call = 0; call < CALLS; call++) {
-        printf("%s: %" PRIu64 " calls, %" PRIu64 " not refused", call_names[call], all_of(by_call[call]), by_call[call][0]);
-        for (int number = 1; number < REFUSALS; number++) {
-            totals[number] += by_call[call][number];
-            if (by_call[call][number] > 0) printf(", refused by %d %" PRIu64, number, by_call[call][number]);
-        }
-        printf("\n");
-    }
-    printf("refusals in all:");
-    for (int number = 1; number < REFUSALS; number++) {
-        printf(" %d: %" PRIu64 "%s", number, totals[number], number + 1 < REFUSALS ? "," : "\n");
-        never += totals[number] == 0;
-    }
-    return never;
-}
 
 void check_fail(const char *what)
 {
@@ -89,37 +36,74 @@ void check_bytes(const char *what, const void *got, const void *expected, size_t
 
 /* ---- slices in two copies */
 
-enum { GUARD = 16, ROOM = 32768 };
+enum { GUARD = 16, ROOM = 65536 };
 
-/* The library's copy of a slice, the model's, and what both were before the call. */
+/* Where a slice lies: right before a page that may not be touched, right after one, or nowhere, being empty. */
+enum placement { BEFORE_A_PAGE, AFTER_A_PAGE, AT_NULL };
+
+/* The library's copy of a slice, the model's, and what both were before the call: the slice, and GUARD bytes on the side where no page is in the way. */
 struct twin {
     const char *name;
     size_t size;
-    uint64_t library[(ROOM + 2 * GUARD) / 8], model[(ROOM + 2 * GUARD) / 8], before[(ROOM + 2 * GUARD) / 8];
+    enum placement placement;
+    struct room library, model;
+    uint8_t before[ROOM + GUARD];
 };
 
 static struct twin first_slice, second_slice, third_slice, fourth_slice, fifth_slice;
 
+/* The first of the slice and its guard, and where the slice is in them. */
+static uint8_t *copy_in(const struct twin *twin, struct room room)
+{
+    return twin->placement == BEFORE_A_PAGE ? room.end - twin->size - GUARD : room.first;
+}
+
+static size_t slice_at(const struct twin *twin)
+{
+    return twin->placement == BEFORE_A_PAGE ? GUARD : 0;
+}
+
+static void *slice_in(const struct twin *twin, struct room room)
+{
+    return twin->placement == AT_NULL ? NULL : copy_in(twin, room) + slice_at(twin);
+}
+
 static void *library_slice(struct twin *twin)
 {
-    return (uint8_t *)twin->library + GUARD;
+    return slice_in(twin, twin->library);
 }
 
 static void *model_slice(struct twin *twin)
 {
-    return (uint8_t *)twin->model + GUARD;
+    return slice_in(twin, twin->model);
 }
 
-/* Bytes that no call writes by chance, other ones at each call. */
+static void copy_back(void *to, struct twin *twin)
+{
+    if (twin->size > 0) memcpy(to, model_slice(twin), twin->size);
+}
+
+/* Bytes from 64 to 253, other ones at each call: no slot's answer and no byte of an allocation is one of them. A number may have such a byte by chance, but
+ * hardly at the next call too. */
 static const uint8_t *pattern(void)
 {
-    static uint8_t bytes[ROOM + 2 * GUARD + 256];
+    static uint8_t bytes[ROOM + GUARD + 256];
     static size_t from;
     if (bytes[0] == 0) {
-        for (size_t i = 0; i < sizeof bytes; i++) bytes[i] = (uint8_t)(2 + i * 37 % 251 % 200);
+        for (size_t i = 0; i < sizeof bytes; i++) bytes[i] = (uint8_t)(64 + i * 37 % 251 % 190);
     }
     from = (from + 1) % 256;
     return bytes + from;
+}
+
+/* Three of four slices end right before a page, the others begin right after one; half of the empty ones are NULL. By a chance of its own, so that the inputs
+ * do not depend on it. */
+static enum placement next_placement(size_t size)
+{
+    static uint64_t turn;
+    turn = turn * 6364136223846793005u + 1442695040888963407u;
+    if (size == 0 && turn >> 63 == 1) return AT_NULL;
+    return (turn >> 60 & 3) == 0 ? AFTER_A_PAGE : BEFORE_A_PAGE;
 }
 
 /* Makes both copies the given bytes, or the pattern alone where none are given. */
@@ -128,28 +112,30 @@ static void set_twin(struct twin *twin, const char *name, const void *bytes, siz
     if (size > ROOM) check_fail("a slice is longer than there is room for");
     twin->name = name;
     twin->size = size;
-    memcpy(twin->before, pattern(), size + 2 * GUARD);
-    if (bytes) memcpy((uint8_t *)twin->before + GUARD, bytes, size);
-    memcpy(twin->library, twin->before, size + 2 * GUARD);
-    memcpy(twin->model, twin->before, size + 2 * GUARD);
+    twin->placement = next_placement(size);
+    memcpy(twin->before, pattern(), size + GUARD);
+    if (bytes && size > 0) memcpy(twin->before + slice_at(twin), bytes, size);
+    memcpy(copy_in(twin, twin->library), twin->before, size + GUARD);
+    memcpy(copy_in(twin, twin->model), twin->before, size + GUARD);
 }
 
-static int guards_stand(const struct twin *twin, const uint64_t *copy)
+static int guard_stands(const struct twin *twin, struct room room)
 {
-    size_t end = GUARD + twin->size;
-    return memcmp(copy, twin->before, GUARD) == 0 && memcmp((const uint8_t *)copy + end, (const uint8_t *)twin->before + end, GUARD) == 0;
+    size_t guard = twin->placement == BEFORE_A_PAGE ? 0 : twin->size;
+    return memcmp(copy_in(twin, room) + guard, twin->before + guard, GUARD) == 0;
 }
 
 static int twin_agrees(const struct twin *twin)
 {
-    return memcmp(twin->library, twin->model, twin->size + 2 * GUARD) == 0 && guards_stand(twin, twin->library) && guards_stand(twin, twin->model);
+    return memcmp(copy_in(twin, twin->library), copy_in(twin, twin->model), twin->size + GUARD) == 0 && guard_stands(twin, twin->library) &&
+           guard_stands(twin, twin->model);
 }
 
 /* ---- a pair of calls */
 
 /* What a pair of calls was made with. */
 struct made {
-    int call;
+    enum call call;
     const char *number_names; /* of the numbers among the arguments, in order */
     uint64_t numbers[6];
     int number_count;
@@ -157,21 +143,16 @@ struct made {
     int slice_count;
 };
 
-/* The slice without what stands around it. */
-static void print_copy(const char *label, const uint64_t *copy, size_t size)
-{
-    print_bytes(label, (const uint8_t *)copy + GUARD, size);
-}
-
 static void print_difference(const struct twin *twin)
 {
-    const uint8_t *library = (const uint8_t *)twin->library, *model = (const uint8_t *)twin->model;
-    size_t i = 0;
-    while (i < twin->size + 2 * GUARD && library[i] == model[i]) i++;
-    if (i == twin->size + 2 * GUARD) printf("  %s: written before its first byte or after its last by both\n", twin->name);
-    else printf("  %s: byte %ld of %zu is %02x in the library's and %02x in the model's\n", twin->name, (long)i - GUARD, twin->size, library[i], model[i]);
-    print_copy("the library leaves", twin->library, twin->size);
-    print_copy("the model leaves", twin->model, twin->size);
+    const uint8_t *library = copy_in(twin, twin->library), *model = copy_in(twin, twin->model);
+    size_t i = 0, all = twin->size + GUARD;
+    while (i < all && library[i] == model[i]) i++;
+    long byte = (long)i - (long)slice_at(twin);
+    if (i == all) printf("  %s: written before its first byte or after its last by both\n", twin->name);
+    else printf("  %s: byte %ld of %zu is %02x in the library's and %02x in the model's\n", twin->name, byte, twin->size, library[i], model[i]);
+    print_bytes("the library leaves", library + slice_at(twin), twin->size);
+    print_bytes("the model leaves", model + slice_at(twin), twin->size);
 }
 
 static void print_answer(const char *whose, uint64_t answer)
@@ -181,13 +162,23 @@ static void print_answer(const char *whose, uint64_t answer)
     else printf("  %s: refused by %" PRIu32 " at %" PRIu32 "\n", whose, METTULOS_NUMBER(answer), METTULOS_PLACE(answer));
 }
 
-static void disagree(const struct made *made, uint64_t library, uint64_t model)
+static void print_input(const struct made *made)
 {
-    printf("DISAGREEMENT in %s, among: %s\n", call_names[made->call], kind_names[kinds - 1]);
+    static const char *const placements[] = {"before a page", "after a page", "NULL"};
+    printf("DISAGREEMENT in %s, among: %s\n", seen_call_name(made->call), seen_kind_name());
     if (made->number_count > 0) printf("  %s:", made->number_names);
     for (int i = 0; i < made->number_count; i++) printf(" %" PRIu64, made->numbers[i]);
     if (made->number_count > 0) printf("\n");
-    for (int i = 0; i < made->slice_count; i++) print_copy(made->slices[i]->name, made->slices[i]->before, made->slices[i]->size);
+    for (int i = 0; i < made->slice_count; i++) {
+        const struct twin *twin = made->slices[i];
+        printf("  %s, %s", twin->name, placements[twin->placement]);
+        print_bytes("", twin->before + slice_at(twin), twin->size);
+    }
+}
+
+static void disagree(const struct made *made, uint64_t library, uint64_t model)
+{
+    print_input(made);
     print_answer("the library", library);
     print_answer("the model", model);
     for (int i = 0; i < made->slice_count; i++) {
@@ -197,15 +188,41 @@ static void disagree(const struct made *made, uint64_t library, uint64_t model)
     exit(1);
 }
 
+/* The pair of calls that is being made, and whose is. */
+static const struct made *making;
+static const char *maker;
+
+static void now_the_library(const struct made *made)
+{
+    making = made;
+    maker = "the library";
+}
+
+static void now_the_model(void)
+{
+    maker = "the model";
+}
+
+static void page_was_touched(void)
+{
+    if (!making) check_fail("a page that may not be touched was touched outside a call");
+    print_input(making);
+    printf("  %s reads or writes beside a slice\n", maker);
+    fflush(stdout);
+    _Exit(1);
+}
+
 /* Holds the two calls to each other, counts them, and answers what both answered. */
 static uint64_t agreed(const struct made *made, uint64_t library, uint64_t model)
 {
     int agrees = library == model;
+    making = NULL;
     for (int i = 0; i < made->slice_count; i++) agrees = agrees && twin_agrees(made->slices[i]);
     if (!agrees) disagree(made, library, model);
-    if (METTULOS_NUMBER(model) >= REFUSALS || (model != 0 && METTULOS_NUMBER(model) == 0)) check_fail("both answer what is no refusal of document 01");
-    by_call[made->call][METTULOS_NUMBER(model)]++;
-    check_count();
+    if (!seen_call(made->call, model)) check_fail("both answer what is no refusal that document 01 has for the call");
+    for (int i = 0; i < made->slice_count; i++) {
+        if (made->slices[i]->placement == AT_NULL) seen_null(made->call, i, made->slices[i]->name);
+    }
     return model;
 }
 
@@ -220,13 +237,15 @@ uint64_t check_decide(struct pair pair, size_t out_len, size_t answer_len, uint3
                         2};
     set_twin(out, "out", NULL, out_len);
     set_twin(numbers, "answer", NULL, answer_len * sizeof *answer);
+    now_the_library(&made);
     uint64_t library = mettulos_decide(pair.gives, pair.giver_c, pair.giver_t, pair.wants, pair.wanted_c, pair.wanted_t, library_slice(out), out_len,
                                        library_slice(numbers), answer_len);
+    now_the_model();
     uint64_t model = model_decide(pair.gives, pair.giver_c, pair.giver_t, pair.wants, pair.wanted_c, pair.wanted_t, model_slice(out), out_len,
                                   model_slice(numbers), answer_len);
     uint64_t both = agreed(&made, library, model);
     if (both == 0) {
-        memcpy(answer, model_slice(numbers), answer_len * sizeof *answer);
+        copy_back(answer, numbers);
         if (answer[0] == 0) meaning_of_failure(pair, answer, model_slice(out));
     }
     return both;
@@ -238,10 +257,13 @@ uint64_t check_read(const uint8_t *bytes, size_t len, uint32_t *plan, size_t pla
     struct made made = {READ, "", {0}, 0, {input, value}, 2};
     set_twin(input, "bytes", bytes, len);
     set_twin(value, "plan", NULL, plan_len * sizeof *plan);
+    now_the_library(&made);
     uint64_t library = mettulos_read(library_slice(input), len, library_slice(value), plan_len);
+    now_the_model();
     uint64_t model = model_read(model_slice(input), len, model_slice(value), plan_len);
     agreed(&made, library, model);
-    if (plan_len == METTULOS_PLAN) memcpy(plan, model_slice(value), plan_len * sizeof *plan);
+    if (plan_len == METTULOS_PLAN) copy_back(plan, value);
+    if (model == 0) seen_plan(plan);
     return model;
 }
 
@@ -251,7 +273,9 @@ uint64_t check_name(const uint8_t *bytes, size_t len, size_t i, size_t answer_le
     struct made made = {NAME, "node", {i}, 1, {input, answer}, 2};
     set_twin(input, "bytes", bytes, len);
     set_twin(answer, "answer", NULL, answer_len * sizeof(uint64_t));
+    now_the_library(&made);
     uint64_t library = mettulos_name(library_slice(input), len, i, library_slice(answer), answer_len);
+    now_the_model();
     uint64_t model = model_name(model_slice(input), len, i, model_slice(answer), answer_len);
     return agreed(&made, library, model);
 }
@@ -262,10 +286,13 @@ uint64_t check_fresh(const uint32_t *plan, size_t plan_len, uint64_t *state, siz
     struct made made = {FRESH, "", {0}, 0, {value, numbers}, 2};
     set_twin(value, "plan", plan, plan_len * sizeof *plan);
     set_twin(numbers, "state", NULL, state_len * sizeof *state);
+    now_the_library(&made);
     uint64_t library = mettulos_fresh(library_slice(value), plan_len, library_slice(numbers), state_len);
+    now_the_model();
     uint64_t model = model_fresh(model_slice(value), plan_len, model_slice(numbers), state_len);
     agreed(&made, library, model);
-    memcpy(state, model_slice(numbers), state_len * sizeof *state);
+    copy_back(state, numbers);
+    if (model == 0) seen_plan(plan);
     return model;
 }
 
@@ -277,12 +304,15 @@ uint64_t check_step(const uint32_t *plan, size_t plan_len, uint64_t *state, size
     set_twin(value, "plan", plan, plan_len * sizeof *plan);
     set_twin(numbers, "state", state, state_len * sizeof *state);
     set_twin(answers, "grants", NULL, grants_len);
+    now_the_library(&made);
     uint64_t library =
         mettulos_step(library_slice(value), plan_len, library_slice(numbers), state_len, supplied, declines, library_slice(answers), grants_len);
+    now_the_model();
     uint64_t model = model_step(model_slice(value), plan_len, model_slice(numbers), state_len, supplied, declines, model_slice(answers), grants_len);
     agreed(&made, library, model);
-    memcpy(state, model_slice(numbers), state_len * sizeof *state);
-    memcpy(grants, model_slice(answers), grants_len);
+    if (model == 0) seen_step(plan, state, model_slice(numbers), model_slice(answers));
+    copy_back(state, numbers);
+    copy_back(grants, answers);
     return model;
 }
 
@@ -296,13 +326,16 @@ uint64_t check_run(const uint32_t *plan, size_t plan_len, uint64_t *state, size_
     set_twin(supplied, "supplies", supplies, supplies_len);
     set_twin(declined, "declines", declines, declines_len * sizeof *declines);
     set_twin(answers, "out", NULL, out_len);
+    now_the_library(&made);
     uint64_t library = mettulos_run(library_slice(value), plan_len, library_slice(numbers), state_len, library_slice(supplied), supplies_len,
                                     library_slice(declined), declines_len, library_slice(answers), out_len);
+    now_the_model();
     uint64_t model = model_run(model_slice(value), plan_len, model_slice(numbers), state_len, model_slice(supplied), supplies_len, model_slice(declined),
                                declines_len, model_slice(answers), out_len);
     agreed(&made, library, model);
-    memcpy(state, model_slice(numbers), state_len * sizeof *state);
-    memcpy(out, model_slice(answers), out_len);
+    if (model == 0) seen_run(plan, state, supplies_len, model_slice(answers));
+    copy_back(state, numbers);
+    copy_back(out, answers);
     return model;
 }
 
@@ -316,8 +349,20 @@ void check_times(uint32_t p, uint32_t q, uint64_t number, size_t answer_len)
         struct twin *answer = &first_slice;
         struct made made = {START + i, "P, Q, number", {p, q, number}, 3, {answer}, 1};
         set_twin(answer, "answer", NULL, answer_len * sizeof(uint64_t));
+        now_the_library(&made);
         uint64_t library = of_library[i](p, q, number, library_slice(answer), answer_len);
+        now_the_model();
         uint64_t model = of_model[i](p, q, number, model_slice(answer), answer_len);
         agreed(&made, library, model);
     }
+}
+
+void check_start(void)
+{
+    struct twin *const twins[] = {&first_slice, &second_slice, &third_slice, &fourth_slice, &fifth_slice};
+    for (size_t i = 0; i < sizeof twins / sizeof *twins; i++) {
+        twins[i]->library = pages_room(ROOM + GUARD);
+        twins[i]->model = pages_room(ROOM + GUARD);
+    }
+    pages_watch(page_was_touched);
 }

@@ -1,19 +1,14 @@
 /* Each call made twice on the same input, once in the proved library and once in the model, and the two held to each other: what is answered, and every byte of
- * every slice afterwards, with some bytes before and after it. The first disagreement is printed with its input in hex and ends the program with status 1. */
+ * every slice afterwards, with some bytes on one side of it. On the other side of each slice lies a page that may not be touched; an empty slice is NULL half
+ * the time. The first disagreement is printed with its input in hex and ends the program with status 1. */
 #ifndef COMPARE_CHECK_H
 #define COMPARE_CHECK_H
 
 #include <stddef.h>
 #include <stdint.h>
 
-/* The cases from here on count under this kind. */
-void check_kind(const char *kind);
-
-/* Counts a case that is no pair of calls. */
-void check_count(void);
-
-/* Prints the counts by kind and by call, and answers how many of the refusals 1 to 17 no call got. */
-int check_report(void);
+/* Before any call is made. */
+void check_start(void);
 
 /* Prints what is not as it should be and ends the program with status 1. */
 void check_fail(const char *what);
@@ -21,7 +16,8 @@ void check_fail(const char *what);
 /* Ends the program in the same way unless the bytes are the ones expected. */
 void check_bytes(const char *what, const void *got, const void *expected, size_t size);
 
-/* Each answers what both calls answered. Where a pointer is not const, what both calls left there is copied back. Slices have at most 32,768 bytes. */
+/* Each answers what both calls answered. What both left in a state, in grants and in a run's answers is copied back; in an answer of numbers only where the
+ * call is not refused; in a plan only where it has the length of one. Slices have at most 65,536 bytes. */
 struct pair {
     uint8_t gives;
     uint16_t giver_c, giver_t;

@@ -76,8 +76,7 @@ static struct drafted_type take_served(struct parent *parent)
     return (struct drafted_type){(uint16_t)c, t};
 }
 
-/* The most ones that a wanted type of period t may ask of the served type. */
-static uint16_t most_wanted(struct drafted_type served, uint8_t kind, uint16_t t)
+uint16_t draft_most_wanted(struct drafted_type served, uint8_t kind, uint16_t t)
 {
     uint32_t answer[4];
     model_decide(0, served.c, served.t, kind == 1, 0, t, NULL, 0, answer, 4);
@@ -99,10 +98,10 @@ static uint16_t wanted_period(uint16_t served_t, int small)
     return (uint16_t)(t < 1 || t > 4096 ? served_t : t);
 }
 
-static struct drafted_type wanted_of(struct drafted_type served, uint8_t kind)
+struct drafted_type draft_wanted(struct drafted_type served, uint8_t kind)
 {
     uint16_t t = wanted_period(served.t, kind == 2);
-    uint16_t most = most_wanted(served, kind, t);
+    uint16_t most = draft_most_wanted(served, kind, t);
     uint16_t c = chance(75) ? most : (uint16_t)chance_below(most + 1u);
     return (struct drafted_type){c, t};
 }
@@ -117,8 +116,7 @@ static int name_occurs_before(const struct draft *draft, uint32_t i)
     return 0;
 }
 
-/* A name of its own, sometimes one that differs little from an earlier one. */
-static void give_name(struct draft *draft, uint32_t i)
+void draft_name(struct draft *draft, uint32_t i)
 {
     struct drafted_node *node = &draft->nodes[i];
     do {
@@ -139,7 +137,7 @@ static struct drafted_type supply_type(void)
     return (struct drafted_type){chance(60) ? t : (uint16_t)chance_below(t + 1u), t};
 }
 
-static uint32_t tick_number(void)
+uint32_t draft_tick(void)
 {
     static const uint32_t edges[] = {1, 2, 3, 999999, 1000000, 1000};
     return chance(30) ? edges[chance_below(6)] : 1 + (uint32_t)chance_below(1000000);
@@ -151,8 +149,8 @@ void draft_sound(struct draft *draft, uint32_t most_nodes)
     uint32_t parent_count = 0;
     int deep = chance(25);
     memset(draft, 0, sizeof *draft);
-    draft->p = tick_number();
-    draft->q = tick_number();
+    draft->p = draft_tick();
+    draft->q = draft_tick();
     draft->supply_count = (uint8_t)(1 + chance_below(chance(50) ? 2 : 8));
     for (uint8_t i = 0; i < draft->supply_count; i++) {
         draft->supplies[i] = supply_type();
@@ -165,8 +163,8 @@ void draft_sound(struct draft *draft, uint32_t most_nodes)
         node->kind = (uint8_t)(deep && chance(70) ? 2 : chance_below(3));
         node->parent = parent->byte;
         node->served = take_served(parent);
-        node->wanted = wanted_of(node->served, node->kind);
-        give_name(draft, i);
+        node->wanted = draft_wanted(node->served, node->kind);
+        draft_name(draft, i);
         if (node->kind == 2 && parent->depth < 8) parents[parent_count++] = make_parent((uint8_t)(128 + i), parent->depth + 1, node->wanted);
     }
 }

@@ -36,6 +36,13 @@ struct draft {
 /* A plan with at most so many nodes that breaks no rule. */
 void draft_sound(struct draft *draft, uint32_t most_nodes);
 
+/* Parts of a plan: a P or a Q; what a node of this kind may want of its served type; the most that a wanted type of period t may ask of it; and for node i a
+ * name of its own, sometimes one that differs little from an earlier one. */
+uint32_t draft_tick(void);
+struct drafted_type draft_wanted(struct drafted_type served, uint8_t kind);
+uint16_t draft_most_wanted(struct drafted_type served, uint8_t kind, uint16_t t);
+void draft_name(struct draft *draft, uint32_t i);
+
 /* One change in what the plan says. The result may still be sound. */
 void draft_damage(struct draft *draft);
 

@@ -1,5 +1,6 @@
 /* Allocations slot by slot. */
 #include "meaning.h"
+#include "seen.h"
 
 #include "../model/model.h"
 
@@ -86,7 +87,7 @@ static void hold_to_search(struct pair pair, const uint32_t *least_at, uint32_t 
     uint32_t apart = pair.wants == 1 ? 1 : pair.wanted_t;
     if (model_decide(pair.gives, pair.giver_c, pair.giver_t, pair.wants, pair.wanted_c, pair.wanted_t, out, sizeof out, answer, 4) != 0)
         fail_at(pair, "a sound pair is refused");
-    check_count();
+    seen_case();
     for (uint32_t start = 0; start < starts; start += apart) {
         if (least_at[start] < pair.wanted_c) {
             if (answer[0] != 0 || answer[1] != start || answer[2] != least_at[start]) fail_at(pair, "the search finds another first failure");

@@ -1,0 +1,123 @@
+/* Sound plans changed so that one rule is broken, or just kept. */
+#include "deep.h"
+
+#include <string.h>
+
+enum { SLIDING_LEAF = 1, HOST = 2, DEPTH = 8 };
+
+uint32_t draft_depth(const struct draft *draft, uint32_t i)
+{
+    uint32_t depth = 1;
+    for (; draft->nodes[i].parent >= 128; i = draft->nodes[i].parent - 128u) depth++;
+    return depth;
+}
+
+/* A node of this depth, or the number of nodes where there is none. */
+static uint32_t node_at_depth(const struct draft *draft, uint32_t depth)
+{
+    uint32_t found[64], count = 0;
+    for (uint32_t i = 0; i < draft->node_count; i++) {
+        if (draft_depth(draft, i) == depth) found[count++] = i;
+    }
+    return count > 0 ? found[chance_below(count)] : draft->node_count;
+}
+
+static struct drafted_type own_type(const struct draft *draft, uint8_t parent)
+{
+    return parent < 128 ? draft->supplies[parent] : draft->nodes[parent - 128].wanted;
+}
+
+/* Serves the node in another period, and has it want what that gives, so that rule 11 holds. */
+static void serve_in(struct drafted_node *node, uint32_t t)
+{
+    node->served.t = (uint16_t)t;
+    if (node->served.c > t) node->served.c = (uint16_t)t;
+    if (node->kind == SLIDING_LEAF) node->wanted.c = 0;
+    else node->wanted = node->served;
+}
+
+/* The node, of depth 8, becomes a host, and a later one hangs below it. */
+static int break_depth(struct draft *draft, uint32_t i)
+{
+    if (i + 1u >= draft->node_count) return 0;
+    draft->nodes[i].kind = HOST;
+    draft->nodes[i + 1 + chance_below(draft->node_count - i - 1u)].parent = (uint8_t)(128 + i);
+    return 1;
+}
+
+static int break_name(struct draft *draft, uint32_t i)
+{
+    if (i == 0) return 0;
+    const struct drafted_node *other = &draft->nodes[chance_below(i)];
+    draft->nodes[i].name_length = other->name_length;
+    memcpy(draft->nodes[i].name, other->name, sizeof other->name);
+    return 1;
+}
+
+static int break_eleven(struct drafted_node *node)
+{
+    uint32_t most = draft_most_wanted(node->served, node->kind, node->wanted.t);
+    if (most >= node->wanted.t) return 0;
+    node->wanted.c = (uint16_t)(most + 1 + (chance(50) ? 0 : chance_below(node->wanted.t - most)));
+    return 1;
+}
+
+static int break_twelve(const struct draft *draft, struct drafted_node *node)
+{
+    uint32_t own = own_type(draft, node->parent).t;
+    if (own == 1) return 0;
+    uint32_t t = own * (uint32_t)chance_below(4) + 1 + (uint32_t)chance_below(own - 1);
+    if (t > 4096) return 0;
+    serve_in(node, t);
+    return 1;
+}
+
+/* Two children with periods of twice and three times the parent's. */
+static int break_thirteen(struct draft *draft, uint32_t i)
+{
+    uint32_t own = own_type(draft, draft->nodes[i].parent).t, siblings[64], count = 0;
+    for (uint32_t k = 0; k < draft->node_count; k++) {
+        if (k != i && draft->nodes[k].parent == draft->nodes[i].parent) siblings[count++] = k;
+    }
+    if (count == 0 || own * 3 > 4096) return 0;
+    serve_in(&draft->nodes[i], own * 2);
+    serve_in(&draft->nodes[siblings[chance_below(count)]], own * 3);
+    return 1;
+}
+
+/* Serves a node all that its parent can still owe, and so many slots more. */
+static int serve_to_the_edge(struct draft *draft, uint32_t i, uint32_t more)
+{
+    struct drafted_node *node = &draft->nodes[i];
+    struct drafted_type own = own_type(draft, node->parent);
+    uint32_t longest = 0, sum = 0;
+    for (uint32_t k = 0; k < draft->node_count; k++) {
+        if (draft->nodes[k].parent == node->parent && draft->nodes[k].served.t > longest) longest = draft->nodes[k].served.t;
+    }
+    for (uint32_t k = 0; k < draft->node_count; k++) {
+        if (draft->nodes[k].parent == node->parent) sum += draft->nodes[k].served.c * (longest / draft->nodes[k].served.t);
+    }
+    uint32_t free = own.c * (longest / own.t) - sum, each = longest / node->served.t, c = node->served.c + free / each + more;
+    if (c > node->served.t || (more == 0 && free % each != 0)) return 0;
+    node->served.c = (uint16_t)c;
+    return 1;
+}
+
+int draft_fill(struct draft *draft)
+{
+    return serve_to_the_edge(draft, (uint32_t)chance_below(draft->node_count), 0);
+}
+
+int draft_break(struct draft *draft, uint32_t number, uint32_t depth)
+{
+    uint32_t i = node_at_depth(draft, number == 7 ? DEPTH : depth);
+    if (i == draft->node_count) return 0;
+    switch (number) {
+    case 7: return break_depth(draft, i);
+    case 9: return break_name(draft, i);
+    case 11: return break_eleven(&draft->nodes[i]);
+    case 12: return break_twelve(draft, &draft->nodes[i]);
+    case 13: return break_thirteen(draft, i);
+    default: return serve_to_the_edge(draft, i, 1);
+    }
+}

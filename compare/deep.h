@@ -1,0 +1,20 @@
+/* Plans that break no rule and whose leaves are served, however deep, and plans that break one rule at a chosen depth. */
+#ifndef COMPARE_DEEP_H
+#define COMPARE_DEEP_H
+
+#include "generate.h"
+
+/* Any number of cores from 1 to 8, any depth from 1 to 8, half the time 64 nodes. */
+void draft_deep(struct draft *draft);
+
+/* The depth of a node of a plan that is sound. */
+uint32_t draft_depth(const struct draft *draft, uint32_t i);
+
+/* Changes a sound plan so that it is refused by this number, one of 7, 9 and 11 to 14; by a rule at a node of this depth. 0 where the plan has no node at which
+ * that can be done; it may be changed then too. */
+int draft_break(struct draft *draft, uint32_t number, uint32_t depth);
+
+/* Changes a sound plan so that the sum of rule 14 just meets a parent's side. 0 where that cannot be done at the node that is tried. */
+int draft_fill(struct draft *draft);
+
+#endif

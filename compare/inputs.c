@@ -1,0 +1,121 @@
+/* Plan values, states, supplies and declines made by chance. */
+#include "inputs.h"
+
+#include "../include/mettulos.h"
+
+/* ---- plan values */
+
+enum { AT_SUPPLY_COUNT = 2, AT_SUPPLIES = 3, AT_NODE_COUNT = 19, AT_NODES = 20 };
+
+/* One more than the greatest number that the field at this place of a plan value can hold; the place is that of a supply or of a node. */
+static uint32_t bound_of(uint32_t at)
+{
+    if (at < AT_NODES) return 65536;
+    return (at - AT_NODES) % 6 == 0 ? 3 : (at - AT_NODES) % 6 == 1 ? 256 : 65536;
+}
+
+int value_of(const struct draft *draft, uint32_t *plan)
+{
+    uint32_t filled = 0;
+    draft_value(draft, plan);
+    if (chance(50)) return 0;
+    for (uint32_t at = AT_SUPPLIES + 2 * plan[AT_SUPPLY_COUNT]; at < AT_NODE_COUNT; at++) filled |= plan[at] = (uint32_t)chance_below(bound_of(at));
+    for (uint32_t at = AT_NODES + 6 * plan[AT_NODE_COUNT]; at < METTULOS_PLAN; at++) filled |= plan[at] = (uint32_t)chance_below(bound_of(at));
+    return filled != 0;
+}
+
+int sound_value(uint32_t *plan, uint32_t most_nodes)
+{
+    struct draft draft;
+    draft_sound(&draft, most_nodes);
+    return value_of(&draft, plan);
+}
+
+int break_unused(uint32_t *plan)
+{
+    uint32_t supplies = AT_SUPPLIES + 2 * plan[AT_SUPPLY_COUNT], nodes = AT_NODES + 6 * plan[AT_NODE_COUNT];
+    int in_supplies = supplies < AT_NODE_COUNT && (nodes == METTULOS_PLAN || chance(30));
+    if (!in_supplies && nodes == METTULOS_PLAN) return 0;
+    uint32_t at = in_supplies ? supplies + (uint32_t)chance_below(AT_NODE_COUNT - supplies) : nodes + (uint32_t)chance_below(METTULOS_PLAN - nodes);
+    plan[at] = chance(60) ? bound_of(at) : chance(50) ? 0xFFFFFFFFu : bound_of(at) + (uint32_t)chance_below(100000);
+    return 1;
+}
+
+uint32_t odd_value_number(uint32_t number)
+{
+    static const uint32_t edges[] = {0, 1, 2, 3, 127, 128, 255, 256, 4096, 4097, 65535, 65536, 1000000, 1000001, 0xFFFFFFFFu};
+    switch (chance_below(4)) {
+    case 0: return number + 1;
+    case 1: return number - 1;
+    case 2: return number + 65536;
+    default: return edges[chance_below(sizeof edges / sizeof *edges)];
+    }
+}
+
+/* ---- states */
+
+static uint64_t odd_clock(void)
+{
+    switch (chance_below(4)) {
+    case 0: return LAST - chance_below(300);
+    case 1: return chance_below(5000);
+    case 2: return chance_below(1000) * 27720;
+    default: return chance_below(LAST + 1);
+    }
+}
+
+void odd_state(const uint32_t *plan, uint64_t *state)
+{
+    uint64_t unused = chance(50) ? 65536 : 1;
+    state[0] = odd_clock();
+    for (uint32_t i = 0; i < 64; i++) {
+        uint32_t served = plan[AT_NODES + 6 * i + 4];
+        if (i >= plan[AT_NODE_COUNT]) state[1 + i] = chance_below(unused);
+        else state[1 + i] = chance(50) ? served : chance_below(served + 1u);
+    }
+}
+
+/* ---- supplies and declines */
+
+enum density { NONE, FEW, BY_CHANCE, MOST, ALL };
+
+static uint64_t bits_of(enum density density)
+{
+    switch (density) {
+    case NONE: return 0;
+    case FEW: return chance_bits() & chance_bits() & chance_bits();
+    case BY_CHANCE: return chance_bits();
+    case MOST: return chance_bits() | chance_bits() | chance_bits();
+    default: return UINT64_MAX;
+    }
+}
+
+/* Most slots are to be given to somebody. */
+static enum density supply_density(void)
+{
+    static const enum density all[] = {ALL, ALL, ALL, ALL, MOST, MOST, BY_CHANCE, FEW, NONE};
+    return all[chance_below(sizeof all / sizeof *all)];
+}
+
+static enum density decline_density(void)
+{
+    static const enum density all[] = {NONE, NONE, NONE, NONE, FEW, FEW, BY_CHANCE, MOST, ALL};
+    return all[chance_below(sizeof all / sizeof *all)];
+}
+
+void inputs_by_chance(struct inputs *inputs, const uint32_t *plan, size_t slots)
+{
+    enum density supplied = supply_density(), declined = decline_density();
+    enum density idle_bits = (enum density)(2 * chance_below(3)); /* of those that name nothing */
+    uint64_t cores = ((uint64_t)1 << plan[AT_SUPPLY_COUNT]) - 1, leaves = 0;
+    for (uint32_t i = 0; i < plan[AT_NODE_COUNT]; i++) leaves |= (uint64_t)(plan[AT_NODES + 6 * i] != 2) << i;
+    inputs->slots = slots;
+    for (size_t k = 0; k < slots + 8; k++) {
+        if (chance_below(200) == 0) supplied = supply_density();
+        if (chance_below(200) == 0) declined = decline_density();
+        inputs->supplies[k] = (uint8_t)(bits_of(supplied) & cores);
+        inputs->supplies[k] |= (uint8_t)(bits_of(idle_bits) & ~cores);
+        inputs->declines[k] = bits_of(declined) & leaves;
+        inputs->declines[k] |= bits_of(idle_bits) & ~leaves;
+    }
+}

@@ -1,0 +1,39 @@
+/* Plan values, states, supplies and declines made by chance. */
+#ifndef COMPARE_INPUTS_H
+#define COMPARE_INPUTS_H
+
+#include "generate.h"
+
+/* The last slot and the last time. */
+#define LAST ((uint64_t)1 << 40)
+
+/* A plan as its value; half the time with numbers in the unused entries that their fields can hold. Answers whether there are such. */
+int value_of(const struct draft *draft, uint32_t *plan);
+
+/* The same of a sound plan with at most so many nodes. */
+int sound_value(uint32_t *plan, uint32_t most_nodes);
+
+/* Puts a number into an unused entry that its field cannot hold; 0 where no entry is unused. */
+int break_unused(uint32_t *plan);
+
+/* A number changed in some way that often matters. */
+uint32_t odd_value_number(uint32_t number);
+
+/* Any state that is fit for the plan, with the clock anywhere, at the last slots there are, or where many periods begin. Half of them have counts past the last
+ * node. */
+void odd_state(const uint32_t *plan, uint64_t *state);
+
+enum { MOST_SLOTS = 8000 };
+
+/* The supply and the declines of a run, and eight slots more. */
+struct inputs {
+    size_t slots;
+    uint8_t supplies[MOST_SLOTS + 8];
+    uint64_t declines[MOST_SLOTS + 8];
+};
+
+/* All cores supplied, none, most, few or by chance, and the same of the leaves that decline; which of these it is changes now and then. Bits that name no
+ * supply or no leaf of the plan are clear, set or set by chance. */
+void inputs_by_chance(struct inputs *inputs, const uint32_t *plan, size_t slots);
+
+#endif

@@ -1,0 +1,140 @@
+/* Slots given out under plans that are served at every depth: long runs, and runs and steps in turn over the same state. */
+#include "cases.h"
+#include "check.h"
+#include "deep.h"
+#include "inputs.h"
+#include "seen.h"
+
+#include "../include/mettulos.h"
+
+#include <string.h>
+
+static struct inputs inputs;
+static uint8_t in_pieces[8 * MOST_SLOTS], whole[8 * MOST_SLOTS + 8];
+static uint32_t plan[METTULOS_PLAN];
+
+/* A deep plan and a state from which so many slots can be given, fresh or odd. */
+static void deep_plan(uint64_t *state, size_t slots)
+{
+    struct draft draft;
+    draft_deep(&draft);
+    value_of(&draft, plan);
+    if (check_fresh(plan, METTULOS_PLAN, state, METTULOS_STATE) != 0) check_fail("a deep plan value that should be sound is refused");
+    if (chance(60)) return;
+    odd_state(plan, state);
+    if (state[0] > LAST - slots) state[0] = LAST - slots - chance_below(2);
+}
+
+static uint64_t run(uint64_t *state, size_t from, size_t slots, uint8_t *out, size_t room)
+{
+    return check_run(plan, METTULOS_PLAN, state, METTULOS_STATE, inputs.supplies + from, slots, inputs.declines + from, slots, out, room);
+}
+
+static void step(uint64_t *state, size_t at)
+{
+    uint8_t grants[8];
+    if (check_step(plan, METTULOS_PLAN, state, METTULOS_STATE, inputs.supplies[at], inputs.declines[at], grants, 8) != 0)
+        check_fail("a step that should go through is refused");
+    memcpy(in_pieces + at * plan[2], grants, plan[2]);
+}
+
+/* All slots of the inputs, a run and some steps in turn. */
+static void go_in_turns(uint64_t *state)
+{
+    size_t at = 0;
+    int stepped = chance(50);
+    while (at < inputs.slots) {
+        size_t left = inputs.slots - at, slots = chance_below(left < 16 || chance(50) ? left + 1 : left / 8);
+        if (run(state, at, slots, in_pieces + at * plan[2], slots * plan[2]) != 0) check_fail("a run that should go through is refused");
+        if (at > 0 && slots > 0 && stepped) seen(RUN_AFTER_STEP);
+        at += slots;
+        stepped = 0;
+        for (uint64_t k = chance_below(8); k > 0 && at < inputs.slots; k--) {
+            step(state, at++);
+            if (!stepped && slots > 0) seen(STEP_AFTER_RUN);
+            stepped = 1;
+        }
+    }
+}
+
+/* How many slots a round has. Thousands in one of eight; after as many rounds as the gate has, in one of sixty-four, because they take most of the time. */
+static size_t slots_of_round(uint64_t round)
+{
+    if (round % (round < 1000 ? 8 : 64) != 0) return 1 + chance_below(300);
+    return 1000 + chance_below(chance(20) ? MOST_SLOTS - 999 : 1000);
+}
+
+/* Runs and steps in turn, and one run over all their slots: the same answers and the same state. */
+static void turns(uint64_t rounds)
+{
+    uint64_t by_turns[METTULOS_STATE], by_run[METTULOS_STATE];
+    seen_kind("runs and steps in turn under deep plans, and one run over all of it");
+    for (uint64_t round = 0; round < rounds; round++) {
+        size_t slots = slots_of_round(round);
+        deep_plan(by_turns, slots);
+        memcpy(by_run, by_turns, sizeof by_run);
+        inputs_by_chance(&inputs, plan, slots);
+        go_in_turns(by_turns);
+        if (run(by_run, 0, slots, whole, slots * plan[2] + chance_below(3)) != 0) check_fail("a run that should go through is refused");
+        check_bytes("the state after a run is not the state after its pieces", by_run, by_turns, sizeof by_run);
+        check_bytes("the answers of a run are not those of its pieces", whole, in_pieces, slots * plan[2]);
+        seen(PIECES_AS_A_WHOLE);
+    }
+}
+
+/* Steps alone, from any state. */
+static void deep_steps(uint64_t rounds)
+{
+    uint64_t state[METTULOS_STATE];
+    seen_kind("steps under deep plans");
+    for (uint64_t round = 0; round < rounds; round++) {
+        deep_plan(state, 20);
+        inputs_by_chance(&inputs, plan, 20);
+        for (size_t at = 0; at < 20; at++) step(state, at);
+    }
+}
+
+/* Up to the last slot and beyond it. */
+static void last_slots(uint64_t rounds)
+{
+    uint64_t state[METTULOS_STATE];
+    uint8_t grants[8];
+    seen_kind("the last slots under deep plans");
+    for (uint64_t round = 0; round < rounds; round++) {
+        size_t slots = 1 + chance_below(20);
+        deep_plan(state, slots);
+        state[0] = LAST - slots;
+        inputs_by_chance(&inputs, plan, slots);
+        if (METTULOS_NUMBER(run(state, 0, slots + 1, whole, (slots + 1) * plan[2])) != 15) check_fail("a run goes past 2^40");
+        if (run(state, 0, slots, whole, slots * plan[2]) != 0) check_fail("a run up to 2^40 is refused");
+        if (METTULOS_NUMBER(check_step(plan, METTULOS_PLAN, state, METTULOS_STATE, 255, 0, grants, 8)) != 15) check_fail("a step goes past 2^40");
+        if (run(state, 0, 0, whole, 0) != 0) check_fail("a run of nothing at 2^40 is refused");
+    }
+}
+
+/* A node with one slot more left than it is served, and room for one answer less than there are. */
+static void refused_turns(uint64_t rounds)
+{
+    uint64_t state[METTULOS_STATE];
+    uint8_t grants[8];
+    seen_kind("runs and steps that deep plans refuse");
+    for (uint64_t round = 0; round < rounds; round++) {
+        size_t slots = 1 + chance_below(20);
+        deep_plan(state, slots);
+        inputs_by_chance(&inputs, plan, slots);
+        if (METTULOS_NUMBER(run(state, 0, slots, whole, slots * plan[2] - 1)) != 17) check_fail("a run has too little room and goes on");
+        uint32_t i = chance(20) ? plan[19] - 1 : (uint32_t)chance_below(plan[19]);
+        state[1 + i] = plan[20 + 6 * i + 4] + 1 + (chance(70) ? 0 : chance_bits() >> 32);
+        uint64_t of_run = run(state, 0, slots, whole, slots * plan[2]);
+        uint64_t of_step = check_step(plan, METTULOS_PLAN, state, METTULOS_STATE, 255, 0, grants, 8);
+        if (METTULOS_NUMBER(of_run) != 16 || of_step != of_run) check_fail("a node has more left than it is served, and a slot is given");
+    }
+}
+
+void cases_of_turns(uint64_t rounds)
+{
+    turns(rounds);
+    deep_steps(rounds);
+    last_slots(rounds);
+    refused_turns(rounds);
+}

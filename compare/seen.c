@@ -1,0 +1,365 @@
+/* The counts. */
+#include "seen.h"
+#include "check.h"
+
+#include "../include/mettulos.h"
+
+#include <inttypes.h>
+#include <stdio.h>
+#include <string.h>
+
+/* ---- how often is enough */
+
+/* A thousand of each: a fault that shows in one of a hundred cases of a sort, each by itself, is then missed once in 23,000 times (0.99 to the 1,000th). With
+ * fewer rounds than the thousand of the gate, their share of it. A hundred, with which a fault that shows in one of ten is missed once in 37,000 times, are
+ * enough where what is counted is long or split finely: a run of a thousand slots or more, whose slots count by themselves; a rule broken at one depth, where
+ * each rule has its thousand over all depths; calls that grant at one depth under one number of cores, whose grants have their thousand (those of one call are
+ * much alike, which is why the calls are counted too); a slice that is NULL, where little but what goes with it is left to chance. */
+enum { ENOUGH = 1000, ENOUGH_OF_A_PART = 100 };
+
+static uint64_t rounds_made;
+static int too_seldom;
+
+static void want(const char *what, const char *of, uint64_t count, uint64_t enough)
+{
+    uint64_t least = rounds_made < ENOUGH ? enough * rounds_made / ENOUGH : enough;
+    if (count >= least) return;
+    printf("TOO SELDOM: %s%s%s came up %" PRIu64 " times, and %" PRIu64 " are enough\n", what, *of ? " " : "", of, count, least);
+    too_seldom++;
+}
+
+/* Prints a row of counts under their numbers. */
+static void print_row(const char *what, const uint64_t *counts, int first, int last)
+{
+    printf("%s:", what);
+    for (int i = first; i <= last; i++) printf(" %d: %" PRIu64 "%s", i, counts[i], i < last ? "," : "\n");
+}
+
+static void want_row(const char *what, const uint64_t *counts, int first, int last, uint64_t enough)
+{
+    char of[16];
+    for (int i = first; i <= last; i++) {
+        snprintf(of, sizeof of, "%d", i);
+        want(what, of, counts[i], enough);
+    }
+}
+
+/* ---- cases and calls */
+
+enum { REFUSALS = 18, MOST_KINDS = 60, MOST_SLICES = 5 };
+
+static const char *const call_names[CALLS] = {"decide", "read", "name", "fresh", "step", "run", "start", "minute", "slot"};
+
+/* What each call may answer: bit n for refusal n, and bit 0 for no refusal. */
+#define BIT(n) (1u << (n))
+static const uint32_t answers_of[CALLS] = {
+    BIT(0) | BIT(4) | BIT(5) | BIT(17),
+    0x7FFF | BIT(17), /* 0 to 14 */
+    BIT(0) | BIT(17),
+    BIT(0) | BIT(16) | BIT(17),
+    BIT(0) | BIT(15) | BIT(16) | BIT(17),
+    BIT(0) | BIT(15) | BIT(16) | BIT(17),
+    BIT(0) | BIT(15) | BIT(16) | BIT(17),
+    BIT(0) | BIT(15) | BIT(16) | BIT(17),
+    BIT(0) | BIT(15) | BIT(16) | BIT(17),
+};
+
+static uint64_t by_call[CALLS][REFUSALS];
+static const char *null_names[CALLS][MOST_SLICES];
+static uint64_t by_null[CALLS][MOST_SLICES];
+
+static const char *kind_names[MOST_KINDS];
+static uint64_t by_kind[MOST_KINDS];
+static int kinds;
+
+const char *seen_call_name(enum call call)
+{
+    return call_names[call];
+}
+
+void seen_kind(const char *kind)
+{
+    if (kinds == MOST_KINDS) check_fail("more kinds of case than there is room to count");
+    kind_names[kinds++] = kind;
+}
+
+const char *seen_kind_name(void)
+{
+    return kind_names[kinds - 1];
+}
+
+void seen_case(void)
+{
+    by_kind[kinds - 1]++;
+}
+
+int seen_call(enum call call, uint64_t answer)
+{
+    uint32_t number = METTULOS_NUMBER(answer);
+    if (number >= REFUSALS || (answer != 0 && number == 0) || (answers_of[call] >> number & 1) == 0) return 0;
+    by_call[call][number]++;
+    seen_case();
+    return 1;
+}
+
+void seen_null(enum call call, int slice, const char *name)
+{
+    null_names[call][slice] = name;
+    by_null[call][slice]++;
+}
+
+static void report_cases(void)
+{
+    uint64_t cases = 0;
+    for (int kind = 0; kind < kinds; kind++) {
+        printf("%10" PRIu64 "  %s\n", by_kind[kind], kind_names[kind]);
+        cases += by_kind[kind];
+    }
+    printf("%10" PRIu64 "  cases in all\n", cases);
+}
+
+static void report_calls(void)
+{
+    for (int call = 0; call < CALLS; call++) {
+        uint64_t sum = 0;
+        for (int number = 0; number < REFUSALS; number++) sum += by_call[call][number];
+        printf("%s: %" PRIu64 " calls, %" PRIu64 " not refused", call_names[call], sum, by_call[call][0]);
+        for (int number = 1; number < REFUSALS; number++) {
+            if (by_call[call][number] > 0) printf(", refused by %d %" PRIu64, number, by_call[call][number]);
+        }
+        printf("\n");
+        printf("  NULL for");
+        for (int slice = 0; slice < MOST_SLICES; slice++) {
+            if (null_names[call][slice]) printf(" %s: %" PRIu64 ";", null_names[call][slice], by_null[call][slice]);
+        }
+        printf("\n");
+    }
+}
+
+static void want_calls(void)
+{
+    static const int slices[CALLS] = {2, 2, 2, 2, 3, 5, 1, 1, 1};
+    char of[80];
+    for (int call = 0; call < CALLS; call++) {
+        for (int number = 0; number < REFUSALS; number++) {
+            if ((answers_of[call] >> number & 1) == 0) continue;
+            snprintf(of, sizeof of, "of %s", call_names[call]);
+            if (number > 0) snprintf(of, sizeof of, "%d of %s", number, call_names[call]);
+            want(number > 0 ? "refusal" : "no refusal", of, by_call[call][number], ENOUGH);
+        }
+        for (int slice = 0; slice < slices[call]; slice++) {
+            snprintf(of, sizeof of, "of %s (%s)", call_names[call], null_names[call][slice] ? null_names[call][slice] : "never");
+            want("NULL for a slice", of, by_null[call][slice], ENOUGH_OF_A_PART);
+        }
+    }
+}
+
+/* ---- plans */
+
+enum { AT_SUPPLIES = 3, AT_NODE_COUNT = 19, AT_NODES = 20, HOST = 2, IDLE = 254, NOT_SUPPLIED = 255, LONG_RUN = 1000 };
+
+static uint64_t plans_by_cores[9], plans_by_depth[9], plans_of_64;
+static uint64_t broken[4][9];
+static uint64_t things[THINGS];
+
+static const uint32_t *node_of(const uint32_t *plan, uint32_t i)
+{
+    return plan + AT_NODES + 6 * i;
+}
+
+/* The depth of each node of an accepted plan, and the supply that it hangs under. */
+struct places {
+    uint8_t depth[64], supply[64];
+};
+
+static void find_places(const uint32_t *plan, struct places *places)
+{
+    for (uint32_t i = 0; i < plan[AT_NODE_COUNT]; i++) {
+        uint32_t parent = node_of(plan, i)[1];
+        places->depth[i] = parent < 128 ? 1 : (uint8_t)(places->depth[parent - 128] + 1);
+        places->supply[i] = parent < 128 ? (uint8_t)parent : places->supply[parent - 128];
+    }
+}
+
+void seen_plan(const uint32_t *plan)
+{
+    struct places places;
+    uint32_t deepest = 0;
+    find_places(plan, &places);
+    for (uint32_t i = 0; i < plan[AT_NODE_COUNT]; i++) {
+        if (places.depth[i] > deepest) deepest = places.depth[i];
+    }
+    plans_by_cores[plan[2]]++;
+    plans_by_depth[deepest]++;
+    plans_of_64 += plan[AT_NODE_COUNT] == 64;
+}
+
+void seen_broken(uint32_t rule, uint32_t depth)
+{
+    broken[rule - 11][depth]++;
+}
+
+void seen(enum thing thing)
+{
+    things[thing]++;
+}
+
+/* ---- slots */
+
+static uint64_t slots_given, slots_past_half, long_runs, odd_counts_kept;
+static uint64_t granted[9][9];      /* by the number of cores and the depth of the leaf */
+static uint64_t granting[9][9];     /* the calls with such a grant */
+static uint64_t granted_kind[2][9]; /* by the kind of the leaf and its depth */
+static uint64_t granted_core[8], granted_leaf[64], granted_scarce[2];
+static uint64_t idle_core[8], missing_core[8];
+static uint64_t idle_below[9]; /* by the depth of the last host that was charged, 0 where none was */
+static uint64_t idle_without_children;
+
+/* The answers of some slots, and what stands past the last node. */
+static void see_answers(const uint32_t *plan, const struct places *places, const uint64_t *before, size_t slots, const uint8_t *out)
+{
+    uint32_t cores = plan[2], depths = 0; /* bit d where depth d was granted */
+    for (size_t k = 0; k < slots * cores; k++) {
+        uint32_t core = (uint32_t)(k % cores), leaf = out[k];
+        if (leaf == IDLE) idle_core[core]++;
+        else if (leaf == NOT_SUPPLIED) missing_core[core]++;
+        else {
+            depths |= BIT(places->depth[leaf]);
+            granted[cores][places->depth[leaf]]++;
+            granted_kind[node_of(plan, leaf)[0] & 1][places->depth[leaf]]++;
+            granted_core[core]++;
+            granted_leaf[leaf]++;
+            granted_scarce[plan[AT_SUPPLIES + 2 * core] < plan[AT_SUPPLIES + 2 * core + 1]]++;
+        }
+    }
+    for (uint32_t depth = 1; depth <= 8; depth++) granting[cores][depth] += depths >> depth & 1;
+    slots_given += slots;
+    if (before[0] >= (uint64_t)1 << 39) slots_past_half += slots;
+    for (uint32_t i = plan[AT_NODE_COUNT]; i < 64; i++) {
+        if (before[1 + i] == 0) continue;
+        odd_counts_kept++;
+        break;
+    }
+}
+
+void seen_run(const uint32_t *plan, const uint64_t *before, size_t slots, const uint8_t *out)
+{
+    struct places places;
+    find_places(plan, &places);
+    see_answers(plan, &places, before, slots, out);
+    long_runs += slots >= LONG_RUN;
+}
+
+static int has_children(const uint32_t *plan, uint32_t i)
+{
+    for (uint32_t k = i + 1; k < plan[AT_NODE_COUNT]; k++) {
+        if (node_of(plan, k)[1] == 128 + i) return 1;
+    }
+    return 0;
+}
+
+/* Whether the slot took one from what the node had, after any refill. */
+static int was_charged(const uint32_t *plan, const uint64_t *before, const uint64_t *after, uint32_t i)
+{
+    uint64_t left = before[0] % node_of(plan, i)[5] == 0 ? node_of(plan, i)[4] : before[1 + i];
+    return after[1 + i] < left;
+}
+
+void seen_step(const uint32_t *plan, const uint64_t *before, const uint64_t *after, const uint8_t *grants)
+{
+    struct places places;
+    uint32_t last[8], depth[8] = {0};
+    find_places(plan, &places);
+    see_answers(plan, &places, before, 1, grants);
+    for (uint32_t i = 0; i < plan[AT_NODE_COUNT]; i++) {
+        uint32_t core = places.supply[i];
+        if (!was_charged(plan, before, after, i) || places.depth[i] <= depth[core]) continue;
+        last[core] = i;
+        depth[core] = places.depth[i];
+    }
+    for (uint32_t core = 0; core < plan[2]; core++) {
+        if (grants[core] != IDLE) continue;
+        idle_below[depth[core]]++;
+        if (depth[core] > 0) idle_without_children += !has_children(plan, last[core]);
+    }
+}
+
+/* ---- the report */
+
+static void report_plans(void)
+{
+    static const char *const names[] = {"rule 11 broken at depth", "rule 12 broken at depth", "rule 13 broken at depth", "rule 14 broken at depth"};
+    print_row("accepted plans by cores", plans_by_cores, 1, 8);
+    print_row("accepted plans by depth", plans_by_depth, 1, 8);
+    printf("accepted plans of 64 nodes: %" PRIu64 "\n", plans_of_64);
+    for (int rule = 0; rule < 4; rule++) print_row(names[rule], broken[rule], 1, 8);
+    want_row("an accepted plan with cores", plans_by_cores, 1, 8, ENOUGH);
+    want_row("an accepted plan of depth", plans_by_depth, 1, 8, ENOUGH);
+    want("an accepted plan of 64 nodes", "", plans_of_64, ENOUGH);
+    for (int rule = 0; rule < 4; rule++) want_row(names[rule], broken[rule], 1, 8, ENOUGH_OF_A_PART);
+}
+
+static void report_grants(void)
+{
+    char what[60];
+    for (int cores = 1; cores <= 8; cores++) {
+        snprintf(what, sizeof what, "grants under %d core%s by depth", cores, cores > 1 ? "s" : "");
+        print_row(what, granted[cores], 1, 8);
+        want_row(what, granted[cores], 1, 8, ENOUGH);
+        snprintf(what, sizeof what, "calls that grant under %d core%s by depth", cores, cores > 1 ? "s" : "");
+        print_row(what, granting[cores], 1, 8);
+        want_row(what, granting[cores], 1, 8, ENOUGH_OF_A_PART);
+    }
+    print_row("grants to aligned leaves by depth", granted_kind[0], 1, 8);
+    print_row("grants to sliding leaves by depth", granted_kind[1], 1, 8);
+    print_row("grants by core", granted_core, 0, 7);
+    print_row("grants by leaf", granted_leaf, 0, 63);
+    print_row("grants where the supply is whole (0) or has C < T (1)", granted_scarce, 0, 1);
+    want_row("a grant to an aligned leaf of depth", granted_kind[0], 1, 8, ENOUGH);
+    want_row("a grant to a sliding leaf of depth", granted_kind[1], 1, 8, ENOUGH);
+    want_row("a grant of core", granted_core, 0, 7, ENOUGH);
+    want_row("a grant to leaf", granted_leaf, 0, 63, ENOUGH);
+    want_row("a grant where the supply is whole (0) or has C < T (1):", granted_scarce, 0, 1, ENOUGH);
+}
+
+static void report_idle(void)
+{
+    print_row("idle answers by core", idle_core, 0, 7);
+    print_row("answers of no supply by core", missing_core, 0, 7);
+    print_row("idle answers of steps by the depth of the last host charged (0: none)", idle_below, 0, 8);
+    printf("idle answers of steps below a host without children: %" PRIu64 "\n", idle_without_children);
+    want_row("an idle answer of core", idle_core, 0, 7, ENOUGH);
+    want_row("an answer of no supply of core", missing_core, 0, 7, ENOUGH);
+    want_row("an idle step whose last charged host has depth", idle_below, 0, 8, ENOUGH);
+    want("an idle step below a host without children", "", idle_without_children, ENOUGH);
+}
+
+static void report_things(void)
+{
+    static const char *const names[THINGS] = {
+        "a plan value with odd unused entries, accepted", "a plan value refused for a number beyond its field in an unused entry",
+        "a run that goes on from a step",                 "a step that goes on from a run",
+        "runs and steps in turn that gave what one run gives", "a sum that just meets the parent's side, accepted"};
+    printf("slots: %" PRIu64 ", at 2^39 or later %" PRIu64 "; runs of %d slots or more: %" PRIu64 "\n", slots_given, slots_past_half, LONG_RUN, long_runs);
+    printf("runs and steps with counts past the last node: %" PRIu64 "\n", odd_counts_kept);
+    want("a slot at 2^39 or later", "", slots_past_half, ENOUGH);
+    want("a run of 1,000 slots or more", "", long_runs, ENOUGH_OF_A_PART);
+    want("a run or a step with counts past the last node", "", odd_counts_kept, ENOUGH);
+    for (int thing = 0; thing < THINGS; thing++) {
+        printf("%s: %" PRIu64 "\n", names[thing], things[thing]);
+        want(names[thing], "", things[thing], ENOUGH);
+    }
+}
+
+int seen_report(uint64_t rounds)
+{
+    rounds_made = rounds;
+    report_cases();
+    report_calls();
+    report_plans();
+    report_grants();
+    report_idle();
+    report_things();
+    want_calls();
+    return too_seldom;
+}

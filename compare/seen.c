@@ -11,7 +11,7 @@
 /* ---- how often is enough */
 
 /* A thousand of each: a fault that shows in one of a hundred cases of a sort, each by itself, is then missed once in 23,000 times (0.99 to the 1,000th). With
- * fewer rounds than the thousand of the gate, their share of it. A hundred, with which a fault that shows in one of ten is missed once in 37,000 times, are
+ * fewer rounds than the thousand of the gate nothing is asked, since chance has too large a part in small counts. A hundred, with which a fault that shows in one of ten is missed once in 37,000 times, are
  * enough where what is counted is long or split finely: a run of a thousand slots or more, whose slots count by themselves; a rule broken at one depth, where
  * each rule has its thousand over all depths; calls that grant at one depth under one number of cores, whose grants have their thousand (those of one call are
  * much alike, which is why the calls are counted too); a slice that is NULL, where little but what goes with it is left to chance. */
@@ -22,7 +22,7 @@ static int too_seldom;
 
 static void want(const char *what, const char *of, uint64_t count, uint64_t enough)
 {
-    uint64_t least = rounds_made < ENOUGH ? enough * rounds_made / ENOUGH : enough;
+    uint64_t least = rounds_made < ENOUGH ? 0 : enough;
     if (count >= least) return;
     printf("TOO SELDOM: %s%s%s came up %" PRIu64 " times, and %" PRIu64 " are enough\n", what, *of ? " " : "", of, count, least);
     too_seldom++;

@@ -117,6 +117,7 @@ isState xs = eqb (length xs) 65 && all (isCountAt xs) 64
 unfoldable pub stateOfNumbers : List ℕ → Standing
 stateOfNumbers xs = cond (isState xs) (stateIn xs) zeroState
 
+-- of numbers that are none's: that they are not, and zeros
 abbrev pub noState : Bool × Standing
 noState = (false, zeroState)
 

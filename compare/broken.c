@@ -62,11 +62,16 @@ static int break_eleven(struct drafted_node *node)
     return 1;
 }
 
+static int is_whole(struct drafted_type own)
+{
+    return own.c == own.t;
+}
+
 static int break_twelve(const struct draft *draft, struct drafted_node *node)
 {
-    uint32_t own = own_type(draft, node->parent).t;
-    if (own == 1) return 0;
-    uint32_t t = own * (uint32_t)chance_below(4) + 1 + (uint32_t)chance_below(own - 1);
+    struct drafted_type own = own_type(draft, node->parent);
+    if (own.t == 1 || is_whole(own)) return 0;
+    uint32_t t = own.t * (uint32_t)chance_below(4) + 1 + (uint32_t)chance_below(own.t - 1u);
     if (t > 4096) return 0;
     serve_in(node, t);
     return 1;
@@ -97,7 +102,8 @@ static int serve_to_the_edge(struct draft *draft, uint32_t i, uint32_t more)
     for (uint32_t k = 0; k < draft->node_count; k++) {
         if (draft->nodes[k].parent == node->parent) sum += draft->nodes[k].served.c * (longest / draft->nodes[k].served.t);
     }
-    uint32_t free = own.c * (longest / own.t) - sum, each = longest / node->served.t, c = node->served.c + free / each + more;
+    uint32_t side = is_whole(own) ? longest : own.c * (longest / own.t);
+    uint32_t free = side - sum, each = longest / node->served.t, c = node->served.c + free / each + more;
     if (c > node->served.t || (more == 0 && free % each != 0)) return 0;
     node->served.c = (uint16_t)c;
     return 1;

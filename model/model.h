@@ -1,5 +1,5 @@
-/* The model: document 01 in plain C, written from its sentences and from nothing of crates/, so that the proved library has something independent to be
- * compared with. It follows the meaning by plain search, simple before fast, and leans on nothing but the language.
+/* The model: document 01, and request 2 of document 02, in plain C, written from their sentences and from nothing of crates/, so that the proved library has
+ * something independent to be compared with. It follows the meaning by plain search, simple before fast, and leans on nothing but the language.
  *
  * The calls are those of include/mettulos.h under another prefix: the same arguments, the same numbers for plan values and states, the same refusals, and
  * the same bytes written and left alone. What they mean is said there and is not said again here. */

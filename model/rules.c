@@ -1,4 +1,5 @@
-/* Document 01, "Rules beyond the bytes", in the order in which a plan is refused by them. The plan's fields are taken to be sound. */
+/* Document 01, "Rules beyond the bytes", with whole parents as document 02 has them in request 2, in the order in which a plan is refused by them. The plan's
+ * fields are taken to be sound. */
 #include "inner.h"
 
 /* Rule 11: a node's served type, aligned, stands in for its wanted type. */
@@ -16,9 +17,16 @@ static int is_child(const struct plan *plan, uint32_t parent, uint32_t i)
     return plan->nodes[i].parent == parent;
 }
 
-/* Rule 12: a child's served T is a multiple of the parent's T. */
+/* Whether a parent, whose own type this is, gives all slots. */
+static int is_whole(struct type own)
+{
+    return own.c == own.t;
+}
+
+/* Rule 12: a child's served T is a multiple of the parent's T. It does not apply to the children of a whole parent. */
 static uint64_t rule_twelve(const struct plan *plan, uint32_t parent, struct type own)
 {
+    if (is_whole(own)) return 0;
     for (uint32_t i = 0; i < plan->node_count; i++) {
         if (is_child(plan, parent, i) && plan->nodes[i].served.t % own.t != 0) return refusal(NOT_A_MULTIPLE, i);
     }
@@ -52,15 +60,21 @@ static uint32_t largest_period(const struct plan *plan, uint32_t parent)
     return largest;
 }
 
-/* Rule 14: the sum of C (M/T) over the children's served types is at most the parent's. Rules 12 and 13 make each M/T exact. */
+/* The parent's side of rule 14: M where it is whole, and C (M/T) otherwise, which rule 12 makes exact. */
+static uint64_t side_of(struct type own, uint32_t largest)
+{
+    return is_whole(own) ? largest : (uint64_t)own.c * (largest / own.t);
+}
+
+/* Rule 14: the sum of C (M/T) over the children's served types is at most the parent's side. Rule 13 makes each M/T exact. */
 static uint64_t rule_fourteen(const struct plan *plan, uint32_t parent, struct type own)
 {
     uint32_t largest = largest_period(plan, parent);
-    uint64_t sum = 0;
+    uint64_t sum = 0, side = side_of(own, largest);
     for (uint32_t i = 0; i < plan->node_count; i++) {
         if (!is_child(plan, parent, i)) continue;
         sum += (uint64_t)plan->nodes[i].served.c * (largest / plan->nodes[i].served.t);
-        if (sum > (uint64_t)own.c * (largest / own.t)) return refusal(TOO_MUCH_SERVED, i);
+        if (sum > side) return refusal(TOO_MUCH_SERVED, i);
     }
     return 0;
 }

@@ -1,4 +1,5 @@
-/* Whether a plan value is fit: what document 01 asks of its fields, 2 to 7, and its "Rules beyond the bytes", 11 to 14. */
+/* Whether a plan value is fit: what document 01 asks of its fields, 2 to 7, and its "Rules beyond the bytes", 11 to 14, with whole parents as document 02 has
+ * them in request 2. */
 #include "inner.h"
 
 #include <string.h>
@@ -88,11 +89,18 @@ static void add_child(struct families *families, const struct node *node, uint32
     families->classes[at].served += node->served.c;
 }
 
-/* Rules 12 to 14 at one parent: each period is a multiple of the one before, the first of the parent's own; and what is served, counted in the longest period,
- * is at most what the parent has. */
+/* A parent with C = T gives all slots, and its children are asked what those of (1,1) are: every period is a multiple of 1, and M slots have M. */
+static struct type as_parent(struct type own)
+{
+    return own.c == own.t ? (struct type){1, 1} : own;
+}
+
+/* Rules 12 to 14 at one parent: each period is a multiple of the one before, the first of the parent's; and what is served, counted in the longest period, is
+ * at most what the parent has. */
 static int is_within_parent(const struct families *families, uint32_t parent, struct type own)
 {
-    uint32_t period = own.t, has = own.c, served = 0;
+    struct type gives = as_parent(own);
+    uint32_t period = gives.t, has = gives.c, served = 0;
     for (uint32_t at = families->first[parent]; at != NO_CLASS; at = families->classes[at].next) {
         const struct class *class = &families->classes[at];
         uint32_t times = class->period / period;
@@ -150,11 +158,12 @@ static uint64_t first_at_odds(const struct plan *plan, uint32_t parent)
 
 static uint64_t first_at(const struct plan *plan, uint32_t parent, struct type own)
 {
+    struct type gives = as_parent(own);
     uint32_t longest = 0, served = 0;
     for (uint32_t i = 0; i < plan->node_count; i++) {
         const struct node *node = &plan->nodes[i];
         if (node->parent != parent) continue;
-        if (node->served.t % own.t != 0) return refusal(NOT_A_MULTIPLE, i);
+        if (node->served.t % gives.t != 0) return refusal(NOT_A_MULTIPLE, i);
         if (node->served.t > longest) longest = node->served.t;
     }
     uint64_t at_odds = first_at_odds(plan, parent);
@@ -163,7 +172,7 @@ static uint64_t first_at(const struct plan *plan, uint32_t parent, struct type o
         const struct node *node = &plan->nodes[i];
         if (node->parent != parent) continue;
         served += node->served.c * (longest / node->served.t);
-        if (served > own.c * (longest / own.t)) return refusal(TOO_MUCH_SERVED, i);
+        if (served > gives.c * (longest / gives.t)) return refusal(TOO_MUCH_SERVED, i);
     }
     return 0;
 }

@@ -7,7 +7,7 @@ use native.Mathlib.Omega.{arith}
 use lib.ListN.{length, getD, take}
 use lib.Seq.{length-take-le}
 use borrow.Author.Tests.{lt-ltb}
-use Rattle.answers.specs.Answers.{Place, none, at, nowhere, refused, said, accepts}
+use Rattle.answers.specs.Answers.{Place, none, at, nowhere, accepted, refused, said, accepts}
 use Rattle.answers.specs.declared.Answer.{Answer}
 use Rattle.answers.specs.declared.Answer.the-variants.{Accepted, Refused}
 use Rattle.answers.proofs.Laws.{said-accepted, said-refused, refused-at, first-accepted, first-accepted-left, first-first, first-second, first-refused, accepts-true, accepts-accepted}
@@ -18,13 +18,14 @@ use Rattle.rules.specs.Fit.{Fit}
 use Rattle.rules.specs.Broken.{FirstBrokenAt}
 use Rattle.rules.specs.Check.{rules, checked, isFit}
 use Rattle.rules.proofs.Kept.{fits-exactly, rules-exactly, broken-range, broken-place}
+use Rattle.rules.proofs.KeptBefore.{stays-fit}
 use Rattle.decode.specs.Positions.{sizeOf, endAt}
 use Rattle.decode.specs.Decode.{planOf}
 use Rattle.reader.specs.Read.{checkEnd, checkBytes, readAnswer, readPlan, nameOf}
 use Rattle.reader.proofs.Accepts.{checkFields, bytes-checked, fields-kept, bytes-kept}
 use Rattle.reader.proofs.Spelled.{spelled-sound, accepted-plan}
 use Rattle.reader.proofs.Kept.{accepted-fit}
-use Rattle.layout.specs.Promises.{Bytes, FileOf, SoundFile, AcceptsExactly, RefusesByBytes, LeftOverExactly, RefusesByRules, RefusesAtPlace, OneReading, NamesPlaced}
+use Rattle.layout.specs.Promises.{Bytes, FileOf, SoundFile, AcceptsExactly, StaysAccepted, RefusesByBytes, LeftOverExactly, RefusesByRules, RefusesAtPlace, OneReading, NamesPlaced}
 use Rattle.layout.proofs.Names.{nameIn, namesOf, names-at}
 use Rattle.layout.proofs.Out.{spelled-start, spelled-file}
 use Rattle.layout.proofs.Back.{file-begins, part-begins, end-read, plan-read, names-read, begun-kept}
@@ -81,6 +82,14 @@ unfolding readPlan readAnswer
 accepted-file s small e =
     rw (accepted-plan s e) (spelled s small (first-accepted-left (checkBytes s) (rules (planOf s)) e) .0)
 
+-- and is read as that value
+fit-read : (s : List ℕ) (plan : Plan) (names : List (List ℕ)) → FileOf s plan names → Fit plan →
+    (said (readPlan s .answer) ≡ accepted) × (readPlan s .plan ≡ plan)
+unfolding readPlan
+fit-read s plan names file fit =
+    let e = fit-accepted s plan names file fit in
+    (ap said e, accepted-plan s e ∙ file-plan s plan names file (fit .sound))
+
 -- bytes are accepted with a value exactly when they are its file, with some names, and it fits
 pub accepts-exactly : AcceptsExactly
 unfolding readPlan
@@ -90,9 +99,12 @@ accepts-exactly s small plan = (
       subst (λ p. (names : List (List ℕ)) × FileOf s p names × Fit p) (h .1) (namesOf s, accepted-file s small e, accepted-fit s e),
   λ h.
       let (names, file, fit) = h in
-      let e = fit-accepted s plan names file fit in
-      (ap said e, accepted-plan s e ∙ file-plan s plan names file (fit .sound)),
+      fit-read s plan names file fit,
 )
+
+-- plans accepted before stay accepted
+pub stays-accepted : StaysAccepted
+stays-accepted s plan names file before = fit-read s plan names file (stays-fit plan before)
 
 -- a refusal of a read is one of the bytes, or else one of the rules, on the sound value whose file they are
 refused-by : (s : List ℕ) → Bytes s → (r k : ℕ) → readAnswer s ≡ Refused r k →

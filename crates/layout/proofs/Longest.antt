@@ -1,9 +1,10 @@
 -- A plan of the greatest length fits, and its file, of 2,796 bytes, is accepted. Assumes nothing.
 use Prim.Native.Nat.{ℕ, zero, suc, _*_, _/_, _%_, _≤_, _<_}
-use mathlib.Core.Bool.{Bool, true, false, cond}
+use mathlib.Core.Bool.{Bool, true, false, cond, true≢false}
 use mathlib.Core.List.{List, []}
 use mathlib.Core.Logic.{inl}
 use mathlib.Core.Path.{_≡_, refl, sym, ap, ap₂, subst, _∙_}
+use native.Mathlib.Nat.{le-trans, mul-div-le}
 use native.Mathlib.Omega.{arith}
 use lib.ListN.{length, getD, replicate, length-replicate, getD-replicate}
 use Rattle.ticks.specs.Times.{inRange, isFit}
@@ -16,8 +17,8 @@ use Rattle.plans.specs.declared.Parent.{Parent}
 use Rattle.plans.specs.declared.Parent.the-variants.{Supply}
 use Rattle.plans.specs.declared.Plan.{Plan}
 use Rattle.plans.proofs.Entries.{node-at-element, supply-at-element, same-equal}
-use Rattle.rules.specs.Fit.{sumTo, load, longest, loadTo, owes, side, Rule14, Fit}
-use Rattle.rules.proofs.Sums.{sum-bounded}
+use Rattle.rules.specs.Fit.{sumTo, load, longest, loadTo, isWhole, owes, side, Rule14, Fit}
+use Rattle.rules.proofs.Totals.{sum-bounded}
 use Rattle.decode.proofs.Entries.{length-filled, filled-at}
 use Rattle.reader.specs.Read.{readPlan}
 use Rattle.layout.specs.Layout.{nameBytes, namePart, SoundNames}
@@ -87,30 +88,32 @@ module _ (plan : Plan) (even : Even plan) where
   load-none x m i e l =
       subst (λ n. cond (same (n .parent) x) (n .served .c * (m / n .served .t)) 0 ≤ 0) (sym (node-is i l)) (rw e (omega arith))
 
-  -- so the sum is within the parent's side
+  -- so the sum is within the side of the parent, which is whole
   sum-within : (x : Parent) → Rule14 plan x
-  unfolding loadTo side owes
+  unfolding loadTo isWhole owes side
   sum-within x = go (same (Supply 0) x) refl
     where
       go : (b : Bool) → same (Supply 0) x ≡ b → sumTo (load plan x (longest plan x)) (plan .size) ≤ side plan x
       go true e =
           rw (own-every x (same-equal (Supply 0) x e))
+          (le-trans
           (subst (λ n. sumTo (load plan x (longest plan x)) (plan .size) ≤ n * (longest plan x / 64)) (even .size)
           (sum-bounded (load plan x (longest plan x)) (longest plan x / 64) (plan .size) (load-most x (longest plan x))))
+          (mul-div-le (longest plan x) 64))
       go false e =
           omega (arith, sum-bounded (load plan x (longest plan x)) 0 (plan .size) (λ i l. load-none x (longest plan x) i e l))
 
   -- and it fits
   even-fit : Fit plan
-  unfolding wantedAs
+  unfolding wantedAs isWhole
   even-fit =
       record {
         sound = even-sound;
         rule11 = λ i l. subst (λ n. StandsIn Aligned (n .served) (wantedAs (n .kind)) (n .wanted)) (sym (node-is i l)) (λ α h. h);
         rule12 =
-            λ x i c.
+            λ x i c part.
             let own = own-every x (sym (parent-is i (c .there)) ∙ c .under) in
-            ap₂ (λ n a. n .served .t % a .t) (node-is i (c .there)) own;
+            absurd (true≢false (sym (ap isWhole own) ∙ part));
         rule13 = λ x i j c d. inl (ap₂ (λ n m. n .served .t % m .served .t) (node-is i (c .there)) (node-is j (d .there)));
         rule14 = sum-within;
       }

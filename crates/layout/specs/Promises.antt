@@ -9,6 +9,7 @@ use Rattle.answers.specs.Answers.{Place, at, accepted, refused, said}
 use Rattle.plans.specs.Plan.{There, Tidy}
 use Rattle.plans.specs.Sound.{Sound}
 use Rattle.plans.specs.declared.Plan.{Plan}
+use Rattle.rules.specs.Before.{FitBefore}
 use Rattle.rules.specs.Fit.{Fit}
 use Rattle.rules.specs.Broken.{FirstBrokenAt}
 use Rattle.reader.specs.Read.{readPlan, nameOf}
@@ -33,6 +34,12 @@ abbrev pub AcceptsExactly : Type 0
 AcceptsExactly =
     (s : List ℕ) → Bytes s → (plan : Plan) →
     ((said (readPlan s .answer) ≡ accepted) × (readPlan s .plan ≡ plan)) ↔ ((names : List (List ℕ)) × FileOf s plan names × Fit plan)
+
+-- 02, request 2: "Plans accepted before stay accepted": the file of a value that kept the rules as document 01 has them is accepted, with that value
+abbrev pub StaysAccepted : Type 0
+StaysAccepted =
+    (s : List ℕ) (plan : Plan) (names : List (List ℕ)) → FileOf s plan names → FitBefore plan →
+    (said (readPlan s .answer) ≡ accepted) × (readPlan s .plan ≡ plan)
 
 -- Refusals 1 to 10 are given exactly when the bytes are the file of no sound value with sound names.
 abbrev pub RefusesByBytes : Type 0

@@ -26,17 +26,11 @@ use native.Mathlib.Omega.{arith}
 use Rattle.meaning.specs.Allocation.{Allocation, bit, ones}
 use Rattle.owed.proofs.Ones.{ones-mono}
 use Rattle.rules.specs.Fit.{sumTo}
+use Rattle.rules.proofs.Siblings as siblings
+use Rattle.rules.proofs.Siblings.{whole-periods, longer-multiple}
+use Rattle.rules.proofs.Totals.{sum-add, sum-multiple, sum-le, sum-without, term-le}
 use Rattle.levels.specs.Level.{Level, Child, Offered, longest, load, Kept, OfferedHonours}
-use Rattle.levels.proofs.Sums.{sum-add, sum-multiple, sum-le, sum-without, term-le, most-ge, most-one}
-use Rattle.levels.proofs.Periods.{whole-periods}
 use Rattle.levels.proofs.Books.{never-over-in, left-throughout}
-
--- of two periods of which one divides the other, the longer is a multiple
-longer-multiple : (a b : ℕ) → 0 < a → a ≤ b → (a % b ≡ 0) ⊎ (b % a ≡ 0) → b % a ≡ 0
-longer-multiple a b some fits (inl e) =
-    let same : a ≡ b = le-antisymm fits (le-of-dvd some (dvd-of-mod-eq-zero b e)) in
-    rw same (mod-self b)
-longer-multiple a b some fits (inr e) = e
 
 -- where b divides a and a divides m, b goes into m as often as a does, times as often as b goes into a
 divides-through : (m a b : ℕ) → 0 < b → m % a ≡ 0 → a % b ≡ 0 → m / b ≡ m / a * (a / b)
@@ -57,19 +51,13 @@ module _ (l : Level) (kept : Kept l) where
   -- no child's period is over the longest
   longest-ge : (i : ℕ) → Child l i → l .t i ≤ longest l
   unfolding longest
-  longest-ge i h = rw (h .is) at (most-ge (λ j. cond (l .child j) (l .t j) 0) (l .size) i (h .there))
+  longest-ge i h = siblings.longest-ge (l .child) (l .t) (l .size) i (h .there) (h .is)
 
   -- and each divides it
   longest-multiple : (i : ℕ) → Child l i → longest l % l .t i ≡ 0
   unfolding longest
   longest-multiple i h =
-      let top = most-one (λ j. cond (l .child j) (l .t j) 0) (l .size) (omega (arith, some i h, longest-ge i h)) in
-      by (top .at) (l .child (top .at)) refl (top .below) (top .is)
-    where
-      by : (k : ℕ) (b : Bool) → l .child k ≡ b → k < l .size → cond b (l .t k) 0 ≡ longest l → longest l % l .t i ≡ 0
-      by k true e m is =
-          rw (← is) (longer-multiple (l .t i) (l .t k) (some i h) (omega (arith, longest-ge i h)) (kept .rule13 i k h (record { there = m; is = e })))
-      by k false e m is = absurd (omega (arith, some i h, longest-ge i h))
+      siblings.longest-multiple (l .child) (l .t) (l .size) i (h .there) (h .is) (some i h) (λ k m e. kept .rule13 i k h (record { there = m; is = e }))
 
   module _ (i : ℕ) (h : Child l i) where
     -- f j where j is a child that is served sooner than i, and 0 elsewhere

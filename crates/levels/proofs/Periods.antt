@@ -1,15 +1,11 @@
 -- What holds of the ones in each aligned period holds of those in several. Assumes nothing.
 use Prim.Native.Nat.{ℕ, zero, suc, _+_, _*_, _/_, _%_, _≤_}
 use mathlib.Core.Path.{_≡_, subst}
-use native.Mathlib.Nat.{zero-mul, suc-mul, mul-assoc, mul-comm, add-le-add, add-mul, le-refl, div-add-mod'}
-use native.Mathlib.Omega.{arith}
+use native.Mathlib.Nat.{zero-mul, suc-mul, mul-assoc, mul-comm, add-le-add, add-mul, le-refl}
 use Rattle.meaning.specs.Allocation.{Allocation, ones}
 use Rattle.owed.proofs.Ones.{ones-split}
 use Rattle.owed.proofs.Parts.{Additive}
-
--- t slots are t / T whole periods of T slots, where T divides t
-pub whole-periods : (t T : ℕ) → t % T ≡ 0 → t / T * T ≡ t
-whole-periods t T e = omega (arith, div-add-mod' t T)
+use Rattle.rules.proofs.Siblings.{whole-periods}
 
 module _ (R : ℕ → ℕ → Type 0) (additive : Additive R) (C T : ℕ) (α : Allocation) (each : (b : ℕ) → R C (ones α (b * T) T)) where
   -- q periods from period b on

@@ -19,7 +19,7 @@ use Rattle.plans.specs.declared.Parent.{Parent}
 use Rattle.plans.specs.declared.Parent.the-variants.{Supply, Node as Under}
 use Rattle.plans.specs.declared.Plan.{Plan}
 use Rattle.rules.specs.Fit.{sumTo}
-use Rattle.rules.proofs.Sums.{sum-grows}
+use Rattle.rules.proofs.Totals.{sum-grows}
 use Rattle.reader.specs.Read.{nameOf}
 use Rattle.dispatch.proofs.Choices.{choice-below}
 use Rattle.dispatch.proofs.SlotsFresh.{replicate-everywhere}

@@ -4,6 +4,7 @@ pub mod Parts
 pub mod Bound
 pub mod Gap
 pub mod Attained
+pub mod Every
 pub mod Lowest
 pub mod Shape
 pub mod Two

@@ -1,8 +1,10 @@
--- Laws of the ones in a window, for any allocation: how many at most, parts, order, agreement, and a window seen from a later slot. Assumes nothing.
+-- Laws of the ones in a window, for any allocation: how many at most, parts, order, agreement, a window seen from a later slot, and one without a
+-- zero. Assumes nothing.
 use Prim.Native.Nat.{ℕ, zero, suc, _+_, _≤_, _<_}
 use mathlib.Core.Bool.{Bool, true, false}
 use mathlib.Core.Path.{_≡_, refl, ap, ap₂}
 use native.Mathlib.Nat.{add-zero, add-suc, add-assoc, le-refl, add-le-add}
+use native.Mathlib.Numerals.{add-one}
 use native.Mathlib.Omega.{arith}
 use Rattle.meaning.specs.Allocation.{Allocation, bit, ones}
 
@@ -44,3 +46,9 @@ pub ones-later : (α : Allocation) (s a n : ℕ) → ones (λ m. α (s + m)) a n
 unfolding ones
 ones-later α s a zero = refl
 ones-later α s a (suc n) = rw (ones-later α s a n, add-assoc s a n)
+
+-- a window of slots that are all set holds as many ones as slots
+pub ones-all : (α : Allocation) → ((n : ℕ) → α n ≡ true) → (s n : ℕ) → ones α s n ≡ n
+unfolding ones
+ones-all α set s zero = refl
+ones-all α set s (suc n) = rw (set (s + n), ones-all α set s n) (add-one n)

@@ -1,20 +1,25 @@
 -- The levels of a plan: each parent with its children over time, as the level lemma takes them, and what the rules and the dispatcher keep of them.
 -- Assumes nothing.
-use Prim.Native.Nat.{ℕ, _*_, _/_, _%_, _≤_, _<_}
-use mathlib.Core.Bool.{Bool, true, false, _&&_, _||_}
-use mathlib.Core.Path.{_≡_, refl}
+use Prim.Native.Nat.{ℕ, _*_, _/_, _≤_, _<_}
+use mathlib.Core.Bool.{Bool, true, false, cond, _&&_, _||_}
+use mathlib.Core.Path.{_≡_, refl, sym}
 use native.Mathlib.Nat.{le-refl, le-of-eq, mul-left-comm, mul-div-assoc, dvd-of-mod-eq-zero}
 use native.Mathlib.Omega.{arith}
 use lib.Dec.{ltb, eqb}
 use borrow.Author.Tests.{ltb-true, eqb-true, lt-ltb, le-ltb, eq-eqb}
+use Rattle.meaning.specs.Allocation.{ones}
 use Rattle.meaning.specs.Types.{Honours}
 use Rattle.meaning.specs.declared.Kind.the-variants.{Aligned}
 use Rattle.meaning.specs.declared.SlotType.{SlotType}
+use Rattle.meaning.proofs.WellFormed.{bounds}
+use Rattle.owed.proofs.Every.{honours-every}
+use Rattle.owed.proofs.Ones.{ones-all}
 use Rattle.plans.specs.Plan.{ownType, isChild}
 use Rattle.plans.specs.declared.Parent.{Parent}
 use Rattle.plans.specs.declared.Plan.{Plan}
 use Rattle.plans.proofs.Entries.{child-of-parent, parent-of-child}
-use Rattle.rules.specs.Fit.{Child, Fit, childPeriod, longest, load, loadTo, owes, side}
+use Rattle.rules.specs.Fit.{Child, Fit, childPeriod, longest, load, loadTo, isWhole, owes, side}
+use Rattle.rules.proofs.Formed.{parent-formed}
 use Rattle.dispatch.specs.View.{bitOf, isLeaf, servedC, servedT}
 use Rattle.unending.specs.Unending.{has, charged, may}
 use Rattle.levels.specs.Level.{Books, Level, Offered, Kept}
@@ -87,16 +92,49 @@ module _ (plan : Plan) (supply declines : ℕ → ℕ) where
     pub in-plan : Levels.Child (levelOf x) i → Child plan x i
     in-plan c = record { there = c .there; under = parent-of-child plan x i (c .is) }
 
+  module _ (fit : Fit plan) (x : Parent) (i : ℕ) (c : Child plan x i) where
+    -- where a parent honours its own type it gives what it owes in each served period of a child: every slot where it is whole, and otherwise by rule 12
+    gives-owed : Honours Aligned (ownType plan x) (may plan supply declines x) → (b : ℕ) →
+        owes (ownType plan x) (servedT plan i) ≤ ones (may plan supply declines x) (b * servedT plan i) (servedT plan i)
+    unfolding servedT isWhole owes
+    gives-owed honours b = go (isWhole own) refl
+      where
+        own : SlotType
+        own = ownType plan x
+
+        go : (w : Bool) → isWhole own ≡ w →
+            cond w (servedT plan i) (own .c * (servedT plan i / own .t)) ≤ ones (may plan supply declines x) (b * servedT plan i) (servedT plan i)
+        go true e =
+            let some = bounds own (parent-formed plan (fit .sound) x i c) .some in
+            let every = honours-every Aligned own some (eqb-true (own .c) (own .t) e) (may plan supply declines x) honours in
+            le-of-eq (sym (ones-all (may plan supply declines x) every (b * servedT plan i) (servedT plan i)))
+        go false e =
+            at-least (own .c) (own .t) (may plan supply declines x) (λ k. honours (k * own .t) (k, refl)) (servedT plan i) (fit .rule12 x i c e) b
+
+    -- and it owes in proportion
+    owes-scales : (e : ℕ) → owes (ownType plan x) (e * servedT plan i) ≤ e * owes (ownType plan x) (servedT plan i)
+    unfolding servedT owes
+    owes-scales e = go (isWhole own) refl
+      where
+        own : SlotType
+        own = ownType plan x
+
+        part : ℕ → ℕ
+        part m = own .c * (m / own .t)
+
+        go : (w : Bool) → isWhole own ≡ w → cond w (e * servedT plan i) (part (e * servedT plan i)) ≤ e * cond w (servedT plan i) (part (servedT plan i))
+        go true w = le-refl (e * servedT plan i)
+        go false w =
+            rw (mul-div-assoc (own .t) e (dvd-of-mod-eq-zero (own .t) (fit .rule12 x i c w)))
+            (le-of-eq (mul-left-comm (own .c) e (servedT plan i / own .t)))
+
   -- where a parent of a fit plan honours its own type its level is kept
   pub level-kept : Fit plan → Keeps → (x : Parent) → Honours Aligned (ownType plan x) (may plan supply declines x) → Kept (levelOf x)
-  unfolding servedT servedC Levels.longest Levels.load longest load loadTo owes side childPeriod
+  unfolding servedT servedC Levels.longest Levels.load longest load loadTo side childPeriod
   level-kept fit keeps x honours =
       record {
-        given = λ i c.
-            at-least (own .c) (own .t) (may plan supply declines x) (λ b. honours (b * own .t) (b, refl)) (servedT plan i) (multiple i c);
-        scales = λ i c e.
-            rw (mul-div-assoc (own .t) e (dvd-of-mod-eq-zero (own .t) (multiple i c)))
-            (le-of-eq (mul-left-comm (own .c) e (servedT plan i / own .t)));
+        given = λ i c. gives-owed fit x i (in-plan x i c) honours;
+        scales = λ i c. owes-scales fit x i (in-plan x i c);
         books = λ i c. keeps .books i (c .there);
         offered = λ i c. keeps .offered x i (in-plan x i c);
         shorter = λ i j. sooner-shorter plan j i;
@@ -104,9 +142,3 @@ module _ (plan : Plan) (supply declines : ℕ → ℕ) where
         rule13 = λ i j c d. fit .rule13 x i j (in-plan x i c) (in-plan x j d);
         rule14 = fit .rule14 x;
       }
-    where
-      own : SlotType
-      own = ownType plan x
-
-      multiple : (i : ℕ) → Levels.Child (levelOf x) i → servedT plan i % own .t ≡ 0
-      multiple i c = fit .rule12 x i (in-plan x i c)

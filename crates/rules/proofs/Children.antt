@@ -14,7 +14,7 @@ use Rattle.plans.specs.declared.Node.{Node}
 use Rattle.plans.specs.declared.Parent.{Parent}
 use Rattle.plans.specs.declared.Plan.{Plan}
 use Rattle.rules.specs.Check.{alike}
-use Rattle.rules.specs.Fit.{childPeriod, load, loadTo, side}
+use Rattle.rules.specs.Fit.{childPeriod, load, loadTo, isWhole, side}
 
 module _ (plan : Plan) (x : Parent) (i : ℕ) (b : Bool) (is : b ≡ isChild plan x i) where
   module _ (spared : b ≡ false) where
@@ -59,10 +59,10 @@ module _ (plan : Plan) (x : Parent) (i : ℕ) (b : Bool) (is : b ≡ isChild pla
       unfolding alike
       else-alike h = rw (sym is ∙ asked, ne-eqb (servedOf plan j .t % servedOf plan i .t) 0 (rw (l, e) at h), l, e)
 
--- rule 12's test on what was read
-pub multiple-read : (plan : Plan) (x : Parent) (i : ℕ) (own : SlotType) (n : Node) → own ≡ ownType plan x → n ≡ nodeAt plan i →
-    eqb (n .served .t % own .t) 0 ≡ eqb (servedOf plan i .t % ownType plan x .t) 0
-multiple-read plan x i own n o e = rw (o, e)
+-- rule 12's test on what was read, under a parent that is not whole
+pub multiple-read : (plan : Plan) (x : Parent) (i : ℕ) (own : SlotType) (n : Node) → own ≡ ownType plan x → n ≡ nodeAt plan i → isWhole own ≡ false →
+    eqb (n .served .t % own .t) 0 ≡ (isWhole (ownType plan x) || eqb (servedOf plan i .t % ownType plan x .t) 0)
+multiple-read plan x i own n o e part = rw (← o, part, e)
 
 -- rule 14's test on the sums
 pub sums-read : (plan : Plan) (x : Parent) (i sum most : ℕ) → sum ≡ loadTo plan x (i + 1) → most ≡ side plan x →

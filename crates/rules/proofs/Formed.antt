@@ -11,11 +11,14 @@ use Rattle.meaning.specs.Types.{wellFormed}
 use Rattle.meaning.specs.declared.SlotType.{SlotType}
 use Rattle.meaning.proofs.WellFormed.{bounds}
 use Rattle.plans.specs.Plan.{nodeAt, ownType}
-use Rattle.plans.specs.Sound.{sound}
+use Rattle.plans.specs.Sound.{Sound, sound}
 use Rattle.plans.specs.declared.Node.{Node}
 use Rattle.plans.specs.declared.Parent.{Parent}
+use Rattle.plans.specs.declared.Parent.the-variants.{Supply, Node as Under}
 use Rattle.plans.specs.declared.Plan.{Plan}
 use Rattle.plans.proofs.Kept.{sound-kept}
+use Rattle.plans.proofs.Parents.{supply-there, host-there}
+use Rattle.rules.specs.Fit.{Child}
 
 module _ (a : SlotType) (formed : wellFormed a ≡ true) where
   -- a well-formed type's period is no 0
@@ -38,3 +41,9 @@ served-formed plan i n e kept l = rw e (sound-kept plan kept .served i l)
 -- a parent's own type, once read, is as well formed as it was
 pub own-formed : (plan : Plan) (x : Parent) (a : SlotType) → a ≡ ownType plan x → wellFormed (ownType plan x) ≡ true → wellFormed a ≡ true
 own-formed plan x a e h = rw e h
+
+-- and the own type of a parent that a node of a sound plan stands under is well formed
+pub parent-formed : (plan : Plan) → Sound plan → (x : Parent) (i : ℕ) → Child plan x i → wellFormed (ownType plan x) ≡ true
+unfolding ownType
+parent-formed plan sound (Supply s) i c = sound .supplies s (supply-there plan sound i (c .there) s (c .under))
+parent-formed plan sound (Under h) i c = sound .wanted h (host-there plan sound i (c .there) h (c .under))

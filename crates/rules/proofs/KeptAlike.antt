@@ -1,6 +1,6 @@
 -- A plan value has no breach that a sound one does not have which agrees with it in all but unused entries. Assumes nothing.
 use Prim.Native.Nat.{ℕ, zero, suc, _+_, _*_, _/_, _%_, _≤_, _<_, max}
-use mathlib.Core.Bool.{cond}
+use mathlib.Core.Bool.{false, cond}
 use mathlib.Core.Logic.{_⊎_}
 use mathlib.Core.Path.{_≡_, refl, sym, ap, ap₂, subst, subst₂, _∙_}
 use native.Mathlib.Omega.{arith}
@@ -13,7 +13,7 @@ use Rattle.plans.specs.declared.Parent.{Parent}
 use Rattle.plans.specs.declared.Parent.the-variants.{Supply, Node as Under}
 use Rattle.plans.specs.declared.Plan.{Plan}
 use Rattle.plans.proofs.Parents.{supply-there, host-there}
-use Rattle.rules.specs.Fit.{sumTo, mostTo, childPeriod, longest, load, loadTo, owes, side, Child}
+use Rattle.rules.specs.Fit.{sumTo, mostTo, childPeriod, longest, load, loadTo, isWhole, owes, side, Child}
 use Rattle.rules.specs.Broken.{Breach, eleven, twelve, thirteen, fourteen, Broken}
 
 -- a fold over the first n values reads no others
@@ -68,7 +68,7 @@ module _ (a b : Plan) (agree : Agree a b) (sound : Sound a) where
       (l, λ k. h .1 (subst (λ n. StandsIn Aligned (n .served) (wantedAs (n .kind)) (n .wanted)) (agree .nodes i l) k))
   broken-alike (twelve x i) h =
       let c = child-alike x i (h .0) in
-      (c, λ k. h .1 (subst₂ (λ n own. n .served .t % own .t ≡ 0) (agree .nodes i (c .there)) (own-alike x i c) k))
+      (c, λ k. h .1 (subst₂ (λ n own. isWhole own ≡ false → n .served .t % own .t ≡ 0) (agree .nodes i (c .there)) (own-alike x i c) k))
   broken-alike (thirteen x i) h =
       let (j, l, d, odds) = h .1 in
       let c = child-alike x i (h .0) in

@@ -41,6 +41,11 @@ either-decides false t {A} {B} d h = record { right = λ e. inr (h .right e); wr
     neither e (inl a) = d .wrong refl a
     neither e (inr b) = h .wrong e b
 
+-- nothing is asked where an exception holds, and elsewhere the test decides
+pub unless-decides : (s t : Bool) {A : Type 0} → Decides t A (A → ⊥) → Decides (s || t) (s ≡ false → A) ((s ≡ false → A) → ⊥)
+unless-decides true t d = record { right = λ e h. absurd (true≢false h); wrong = λ e. absurd (true≢false e); apart = λ g n. n g }
+unless-decides false t d = record { right = λ e h. d .right e; wrong = λ e g. d .wrong e (g refl); apart = λ g n. n g }
+
 -- a test that does not hold of all fails at one
 all-false-at : (f : ℕ → Bool) (n : ℕ) → all f n ≡ false → (j : ℕ) × (j < n) × (f j ≡ false)
 unfolding all

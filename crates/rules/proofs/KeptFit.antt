@@ -13,7 +13,7 @@ use Rattle.plans.specs.declared.Plan.{Plan}
 use Rattle.plans.proofs.Entries.{parent-of-child}
 use Rattle.rules.specs.Fit.{sumTo, longest, load, loadTo, side, Child, Rule13, Fit}
 use Rattle.rules.specs.Broken.{Breach, eleven, twelve, thirteen, fourteen, place, Broken}
-use Rattle.rules.proofs.Sums.{sum-grows}
+use Rattle.rules.proofs.Totals.{sum-grows}
 use Rattle.rules.proofs.KeptTests.{Kept, kept-unbroken, unbroken-kept}
 
 module _ (plan : Plan) where
@@ -38,6 +38,16 @@ module _ (plan : Plan) where
       go true is = inl (is refl)
       go false is = inr refl
 
+  -- the sum is within a bound that it passes at no child
+  pub loads-by-child : (x : Parent) (bound n : ℕ) → n ≤ plan .size → ((i : ℕ) → Child plan x i → loadTo plan x (suc i) ≤ bound) → loadTo plan x n ≤ bound
+  unfolding loadTo sumTo
+  loads-by-child x bound zero l at-child = omega arith
+  loads-by-child x bound (suc n) l at-child = go (child-or-none x (longest plan x) n) (loads-by-child x bound n (omega arith) at-child)
+    where
+      go : (parentOf plan n ≡ x) ⊎ (load plan x (longest plan x) n ≡ 0) → loadTo plan x n ≤ bound → loadTo plan x (suc n) ≤ bound
+      go (inl is) before = at-child n (record { there = l; under = is })
+      go (inr e) before = omega arith
+
   module _ (sound : Sound plan) (none : (b : Breach) → Broken plan b → ⊥) where
     -- every rule is kept everywhere
     kept : (b : Breach) → place b < plan .size → Kept plan b
@@ -52,16 +62,6 @@ module _ (plan : Plan) where
         go (no l) (yes h) = ⊎-swap (kept (thirteen x j) (d .there) d i h c)
         go (no l) (no h) = inl (subst (λ z. servedOf plan i .t % servedOf plan z .t ≡ 0) (omega arith) (mod-self (servedOf plan i .t)))
 
-    -- the running sum passes the parent's side at no child, so it never does
-    kept-loads : (x : Parent) (n : ℕ) → n ≤ plan .size → loadTo plan x n ≤ side plan x
-    unfolding loadTo sumTo
-    kept-loads x zero l = omega arith
-    kept-loads x (suc n) l = go (child-or-none x (longest plan x) n) (kept-loads x n (omega arith))
-      where
-        go : (parentOf plan n ≡ x) ⊎ (load plan x (longest plan x) n ≡ 0) → loadTo plan x n ≤ side plan x → loadTo plan x (suc n) ≤ side plan x
-        go (inl is) before = kept (fourteen x n) l (record { there = l; under = is })
-        go (inr e) before = omega arith
-
     -- a sound value with no breach fits
     pub unbroken-fit : Fit plan
     unbroken-fit =
@@ -70,5 +70,5 @@ module _ (plan : Plan) where
           rule11 = λ i l. kept (eleven i) l;
           rule12 = λ x i c. kept (twelve x i) (c .there) c;
           rule13 = kept-alike;
-          rule14 = λ x. kept-loads x (plan .size) (omega arith);
+          rule14 = λ x. loads-by-child x (side plan x) (plan .size) (omega arith) (λ i c. kept (fourteen x i) (c .there) c);
         }

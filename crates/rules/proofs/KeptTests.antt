@@ -15,10 +15,10 @@ use Rattle.plans.specs.Plan.{kindOf, wantedOf, servedOf, wantedAs, ownType, isC
 use Rattle.plans.specs.Sound.{Sound, all}
 use Rattle.plans.specs.declared.Parent.{Parent}
 use Rattle.plans.specs.declared.Plan.{Plan}
-use Rattle.rules.specs.Fit.{Child, Rule11, Rule12, Rule13, loadTo, side}
+use Rattle.rules.specs.Fit.{Child, Rule11, Rule12, Rule13, isWhole, loadTo, side}
 use Rattle.rules.specs.Broken.{Breach, eleven, twelve, thirteen, fourteen, number, place, Broken}
 use Rattle.rules.specs.Check.{holding, alike}
-use Rattle.rules.proofs.KeptDecides.{Decides, decides-as, equal-decides, most-decides, either-decides, all-decides, child-decides}
+use Rattle.rules.proofs.KeptDecides.{Decides, decides-as, equal-decides, most-decides, either-decides, unless-decides, all-decides, child-decides}
 
 -- what the rule of a breach asks where the breach would be
 abbrev pub Kept : Plan → Breach → Type 0
@@ -30,7 +30,7 @@ Kept plan (fourteen x i) = Child plan x i → loadTo plan x (suc i) ≤ side pla
 -- the test for a breach
 abbrev pub tests : Plan → Breach → Bool
 tests plan (eleven i) = holding (judged Aligned (servedOf plan i) (wantedAs (kindOf plan i)) (wantedOf plan i))
-tests plan (twelve x i) = not (isChild plan x i) || eqb (servedOf plan i .t % ownType plan x .t) 0
+tests plan (twelve x i) = not (isChild plan x i) || (isWhole (ownType plan x) || eqb (servedOf plan i .t % ownType plan x .t) 0)
 tests plan (thirteen x i) = not (isChild plan x i) || all (alike plan x i) i
 tests plan (fourteen x i) = not (isChild plan x i) || leb (loadTo plan x (suc i)) (side plan x)
 
@@ -73,7 +73,7 @@ module _ (plan : Plan) where
     -- the test for a breach decides between the rule kept and the breach
     tests-decide : (b : Breach) → place b < plan .size → Decides (tests plan b) (Kept plan b) (Broken plan b)
     tests-decide (eleven i) l = decides-as (λ n. (l, n)) (λ b. b .1) (eleven-decides i l)
-    tests-decide (twelve x i) l = child-decides plan _ x i l (equal-decides _ 0)
+    tests-decide (twelve x i) l = child-decides plan _ x i l (unless-decides (isWhole (ownType plan x)) _ (equal-decides _ 0))
     tests-decide (thirteen x i) l =
         decides-as
         (λ b. (b .0, (b .1 .0, b .1 .1, b .1 .2 .0, b .1 .2 .1)))

@@ -1,7 +1,10 @@
 pub mod Formed
 pub mod Eleven
 pub mod Children
+pub mod Owing
+pub mod Totals
 pub mod Sums
+pub mod Siblings
 pub mod Order
 pub mod KeptOrder
 pub mod KeptDecides
@@ -9,5 +12,7 @@ pub mod KeptTests
 pub mod KeptRanks
 pub mod KeptFit
 pub mod KeptAlike
+pub mod KeptBefore
+pub mod KeptWhole
 pub mod Kept
 pub mod KeptUnused

@@ -17,30 +17,7 @@ use Rattle.plans.specs.declared.Plan.{Plan}
 use Rattle.plans.proofs.Kept.{sound-kept}
 use Rattle.rules.specs.Fit.{sumTo, mostTo, childPeriod, longest, load, loadTo, owes, side}
 use Rattle.rules.proofs.Formed.{in-slots-most}
-
-module _ (f : ℕ → ℕ) (bound : ℕ) where
-  -- the largest of values that are each at most some bound is so too
-  pub most-bounded : (n : ℕ) → ((i : ℕ) → i < n → f i ≤ bound) → mostTo f n ≤ bound
-  unfolding mostTo
-  most-bounded zero h = omega arith
-  most-bounded (suc n) h = max-le (most-bounded n (λ i l. h i (omega arith))) (h n (omega arith))
-
-  -- and their sum is at most as many times the bound
-  pub sum-bounded : (n : ℕ) → ((i : ℕ) → i < n → f i ≤ bound) → sumTo f n ≤ n * bound
-  unfolding sumTo
-  sum-bounded zero h = omega arith
-  sum-bounded (suc n) h = omega (arith, suc-mul n bound, sum-bounded n (λ i l. h i (omega arith)), h n (omega arith))
-
--- a longer sum is no less
-pub sum-grows : (f : ℕ → ℕ) (m n : ℕ) → m ≤ n → sumTo f m ≤ sumTo f n
-unfolding sumTo
-sum-grows f zero n l = omega arith
-sum-grows f (suc m) zero l = absurd (omega arith)
-sum-grows f (suc m) (suc n) l = go (eq-or-lt-of-le l) (sum-grows f (suc m) n)
-  where
-    go : (suc m ≡ suc n) ⊎ (suc m < suc n) → (suc m ≤ n → sumTo f (suc m) ≤ sumTo f n) → sumTo f (suc m) ≤ sumTo f n + f n
-    go (inl e) before = omega (arith, ap (sumTo f) e)
-    go (inr h) before = omega (arith, before (omega arith))
+use Rattle.rules.proofs.Totals.{most-bounded, sum-bounded}
 
 -- a value that counts only where a test holds is bounded where it is so by itself
 cond-bounded : (b : Bool) (n bound : ℕ) → n ≤ bound → cond b n 0 ≤ bound
@@ -73,9 +50,9 @@ module _ (plan : Plan) (x : Parent) where
   unfolding loadTo sumTo
   load-more i sum m l e h k = rw (add-one i, e, k, h)
 
-  -- the parent's side is what its own type comes to in M slots
-  pub side-read : (own : SlotType) (m r : ℕ) → own ≡ ownType plan x → m ≡ longest plan x → r ≡ own .c * (m / own .t) → r ≡ side plan x
-  unfolding side owes
+  -- the parent's side is what it owes in M slots by its own type
+  pub side-read : (own : SlotType) (m r : ℕ) → own ≡ ownType plan x → m ≡ longest plan x → r ≡ owes own m → r ≡ side plan x
+  unfolding side
   side-read own m r o h e = rw (e, o, h)
 
   module _ (kept : sound plan ≡ true) where

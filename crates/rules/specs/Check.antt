@@ -13,7 +13,7 @@ use Rattle.plans.specs.Sound.{all, sound}
 use Rattle.plans.specs.declared.Parent.{Parent}
 use Rattle.plans.specs.declared.Parent.the-variants.{Supply, Node as Under}
 use Rattle.plans.specs.declared.Plan.{Plan}
-use Rattle.rules.specs.Fit.{loadTo, side}
+use Rattle.rules.specs.Fit.{isWhole, loadTo, side}
 
 unfoldable pub holding : Said → Bool
 holding (holds m) = true
@@ -26,7 +26,7 @@ elevenAt plan i = test (holding (judged Aligned (servedOf plan i) (wantedAs (kin
 
 -- rules 12, 13 and 14 at node i, which matter where it is a child of x
 unfoldable pub twelveAt : Plan → Parent → ℕ → Answer
-twelveAt plan x i = test (not (isChild plan x i) || eqb (servedOf plan i .t % ownType plan x .t) 0) 12 i
+twelveAt plan x i = test (not (isChild plan x i) || (isWhole (ownType plan x) || eqb (servedOf plan i .t % ownType plan x .t) 0)) 12 i
 
 unfoldable pub alike : Plan → Parent → ℕ → ℕ → Bool
 alike plan x i j =

@@ -1,8 +1,9 @@
--- What it is for a plan value to fit: document 01, "Rules beyond the bytes", on top of soundness (2 to 7). Assumes nothing.
+-- What it is for a plan value to fit: document 01, "Rules beyond the bytes", with document 02, request 2, on top of soundness (2 to 7). Assumes nothing.
 use Prim.Native.Nat.{ℕ, zero, suc, _+_, _*_, _/_, _%_, _≤_, max}
-use mathlib.Core.Bool.{cond}
+use mathlib.Core.Bool.{Bool, false, cond}
 use mathlib.Core.Logic.{_⊎_}
 use mathlib.Core.Path.{_≡_}
+use lib.Dec.{eqb}
 use Rattle.meaning.specs.Types.{StandsIn}
 use Rattle.meaning.specs.declared.SlotType.{SlotType}
 use Rattle.meaning.specs.declared.Kind.the-variants.{Aligned}
@@ -36,11 +37,15 @@ load plan x m i = cond (isChild plan x i) (servedOf plan i .c * (m / servedOf pl
 unfoldable pub loadTo : Plan → Parent → ℕ → ℕ
 loadTo plan x k = sumTo (load plan x (longest plan x)) k
 
--- what a parent of type (C, T) owes in m slots: C·(m/T)
-unfoldable pub owes : SlotType → ℕ → ℕ
-owes own m = own .c * (m / own .t)
+-- 02: "A parent with C = T, supply or host, gives all slots". It is whole by its own type.
+unfoldable pub isWhole : SlotType → Bool
+isWhole own = eqb (own .c) (own .t)
 
--- the parent's side: what it owes in M slots
+-- what a parent of type (C, T) owes in m slots: all of them where it is whole, and C·(m/T) otherwise
+unfoldable pub owes : SlotType → ℕ → ℕ
+owes own m = cond (isWhole own) m (own .c * (m / own .t))
+
+-- the parent's side, what it owes in M slots; 02: "its side of rule 14 is M" where it is whole
 unfoldable pub side : Plan → Parent → ℕ
 side plan x = owes (ownType plan x) (longest plan x)
 
@@ -49,12 +54,12 @@ pub record Child (plan : Plan) (x : Parent) (i : ℕ) : Type 0 where
   pub there : There plan i
   pub under : parentOf plan i ≡ x
 
--- 01, rules 11 to 14
+-- 01, rules 11 to 14; 02: "rule 12 does not apply to its children", where the parent is whole
 abbrev pub Rule11 : Plan → ℕ → Type 0
 Rule11 plan i = StandsIn Aligned (servedOf plan i) (wantedAs (kindOf plan i)) (wantedOf plan i)
 
 abbrev pub Rule12 : Plan → Parent → ℕ → Type 0
-Rule12 plan x i = servedOf plan i .t % ownType plan x .t ≡ 0
+Rule12 plan x i = isWhole (ownType plan x) ≡ false → servedOf plan i .t % ownType plan x .t ≡ 0
 
 abbrev pub Rule13 : Plan → ℕ → ℕ → Type 0
 Rule13 plan i j = (servedOf plan i .t % servedOf plan j .t ≡ 0) ⊎ (servedOf plan j .t % servedOf plan i .t ≡ 0)

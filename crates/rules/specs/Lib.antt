@@ -1,4 +1,5 @@
 pub mod Fit
+pub mod Before
 pub mod Broken
 pub mod Check
 pub mod Promises

@@ -1,4 +1,5 @@
-// Rules 11 to 14 on a plan value: document 01, "Rules beyond the bytes" and the order of "Refusal numbers". Any value may be asked about.
+// Rules 11 to 14 on a plan value: document 01, "Rules beyond the bytes" and the order of "Refusal numbers", with document 02, request 2. Any value may
+// be asked about.
 // Fit says what it is to keep them and Broken which breach comes first (specs/); the calls below are held to Check.
 ghost use mathlib.Core.Path.{_≡_};
 ghost use Rattle.rules.specs.Check.{checked, isFit};
@@ -6,6 +7,7 @@ ghost use Rattle.rules.specs.Check.{checked, isFit};
 mod loads;
 mod nodes;
 mod parents;
+mod whole;
 
 use answers::Answer;
 use plans::Plan;

@@ -20,7 +20,7 @@ pub fn check_fourteen(plan: Plan, x: Parent) -> Answer
 {
     let own = plans::own_type(plan, x);
     let m = longest_period(plan, x);
-    let most = in_slots(own, m);
+    let most = crate::whole::owed_in(own, m);
     let size = plan.size;
     let mut sum: u64 = 0;
     let mut i: usize = 0;
@@ -82,7 +82,7 @@ fn load_of(plan: Plan, x: Parent, m: u16, i: usize) -> u64
 }
 
 // What a type comes to in m slots, C·(m/T): at most m, so it does not wrap.
-fn in_slots(a: SlotType, m: u16) -> u64
+pub fn in_slots(a: SlotType, m: u16) -> u64
     requires { ⌜ wellFormed a ≡ true ⌝ }
     ensures { λ r. ⌜ r ≡ a .c * (m / a .t) ⌝ }
 {

@@ -1,13 +1,15 @@
 // Rules 12 and 13 under a parent, and all parents in their order.
 ghost use mathlib.Core.Path.{_≡_};
-ghost use mathlib.Core.Bool.{true};
+ghost use mathlib.Core.Bool.{true, false};
 ghost use Prim.Native.Nat.{_<_};
 ghost use Rattle.answers.specs.Answers.{each};
 ghost use Rattle.meaning.specs.Types.{wellFormed};
 ghost use Rattle.plans.specs.Plan.{ownType};
 ghost use Rattle.plans.specs.Sound.{all, sound};
 ghost use Rattle.rules.specs.Check.{alike, checkParent, checkSupply, checkHost, twelveAt, thirteenAt};
+ghost use Rattle.rules.specs.Fit.{isWhole};
 use answers::Answer;
+use meaning::SlotType;
 use plans::Parent;
 use plans::Plan;
 
@@ -74,15 +76,19 @@ fn check_parent(plan: Plan, x: Parent) -> Answer
     crate::loads::check_fourteen(plan, x)
 }
 
-// Rule 12 over all nodes, of which only the children of x matter: its served period is a multiple of x's own.
+// Rule 12 over all nodes, of which only the children of x matter, and those only where x is not whole.
 fn check_twelve(plan: Plan, x: Parent) -> Answer
     requires { ⌜ wellFormed (ownType plan x) ≡ true ⌝ }
     ensures { λ r. ⌜ r ≡ each (twelveAt plan x) (plan .size) ⌝ }
 {
+    let own = plans::own_type(plan, x);
+    if crate::whole::is_whole(own) {
+        return Answer::Accepted;
+    }
     let size = plan.size;
     let mut i: usize = 0;
     while i < size {
-        let a = twelve_at(plan, x, i);
+        let a = twelve_at(plan, x, own, i);
         let Answer::Accepted = a else {
             return a;
         };
@@ -91,14 +97,14 @@ fn check_twelve(plan: Plan, x: Parent) -> Answer
     Answer::Accepted
 }
 
-fn twelve_at(plan: Plan, x: Parent, i: usize) -> Answer
-    requires { ⌜ wellFormed (ownType plan x) ≡ true ⌝ }
+// Rule 12 at node i, under a parent of type `own` that is not whole: a child's served period is a multiple of the parent's.
+fn twelve_at(plan: Plan, x: Parent, own: SlotType, i: usize) -> Answer
+    requires { ⌜ (own ≡ ownType plan x) × ((wellFormed own ≡ true) × (isWhole own ≡ false)) ⌝ }
     ensures { λ r. ⌜ r ≡ twelveAt plan x i ⌝ }
 {
     if !plans::is_child(plan, x, i) {
         return Answer::Accepted;
     }
-    let own = plans::own_type(plan, x);
     let served = plans::node_at(plan, i).served;
     answers::tested(served.t % own.t == 0, 12, i)
 }

@@ -24,8 +24,8 @@ own-type-requires c κs = search needs
 longest-period-requires : tie.Need-longest-period-requires Inv-loop μ-loop
 longest-period-requires c κs = search needs
 
-in-slots-requires : tie.Need-in-slots-requires Inv-loop μ-loop
-in-slots-requires c κs = search own-formed
+owed-in-requires : tie.Need-owed-in-requires Inv-loop μ-loop
+owed-in-requires c κs = search own-formed
 
 loop-holds : tie.Need-loop-holds Inv-loop μ-loop
 loop-holds c = search (needs, load-none, each-none)
@@ -70,7 +70,7 @@ check-fourteen-spec =
     μ-loop
     own-type-requires
     longest-period-requires
-    in-slots-requires
+    owed-in-requires
     loop-holds
     load-of-requires
     add-sum

@@ -1,7 +1,7 @@
 -- `rules::parents::twelve_at` meets its contract: one law a return. Assumes nothing.
 use borrow.Author.Needs.{needs}
 use borrow.Author.Tests.{not-true, not-false}
-use Rattle.rules.proofs.Formed.{formed-positive, own-formed}
+use Rattle.rules.proofs.Formed.{formed-positive}
 use Rattle.rules.proofs.Children.{no-child-accepted, child-tested, multiple-read}
 use Rattle.rules.specs.Check.{twelveAt}
 use Rattle.rules.proofs.parents.twelve_at.Statement.{statement}
@@ -14,14 +14,11 @@ returns : tie.Need-returns
 unfolding twelveAt
 returns c = search (no-child-accepted, not-true)
 
-own-type-requires : tie.Need-own-type-requires
-own-type-requires c κs = search needs
-
 node-at-requires : tie.Need-node-at-requires
 node-at-requires c κs = search needs
 
 rem-tested : tie.Need-rem-tested
-rem-tested c = search (formed-positive, own-formed)
+rem-tested c = search formed-positive
 
 tested-requires : tie.Need-tested-requires
 tested-requires c κs = search needs
@@ -36,7 +33,6 @@ twelve-at-spec =
     (tie.spec
     is-child-requires
     returns
-    own-type-requires
     node-at-requires
     rem-tested
     tested-requires

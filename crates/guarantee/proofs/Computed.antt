@@ -4,7 +4,6 @@ use mathlib.Core.Bool.{Bool, true, false, not, cond, true≢false}
 use mathlib.Core.List.{List, [], _∷_}
 use mathlib.Core.Path.{_≡_, refl, ap}
 use native.Mathlib.Nat.{mul-add-mod-self-right}
-use native.Mathlib.Numerals.{add-one}
 use native.Mathlib.Omega.{arith}
 use lib.Dec.{ltb, eqb}
 use lib.ListN.{length, getD, replicate}
@@ -15,6 +14,7 @@ use Rattle.meaning.specs.Least.{lowest}
 use Rattle.meaning.specs.Types.{wellFormed}
 use Rattle.meaning.specs.Written.{written}
 use Rattle.meaning.proofs.WellFormed.{bounds}
+use Rattle.owed.proofs.Ones.{ones-all}
 use Rattle.types.specs.Verdict.{judged}
 use Rattle.types.specs.Least.{step, turns, onesFrom, onesAt, leastOnes}
 use Rattle.answers.specs.Answers.{Said, accepted, said, accepts, first, test, each}
@@ -24,7 +24,7 @@ use Rattle.plans.specs.Cores.{upward, coreTo, coreOf}
 use Rattle.plans.specs.declared.Plan.{Plan}
 use Rattle.plans.proofs.All.{all-true-at}
 use Rattle.plans.proofs.Kept.{sound-kept}
-use Rattle.rules.specs.Fit.{sumTo, mostTo, childPeriod, longest, load, loadTo, owes, side}
+use Rattle.rules.specs.Fit.{sumTo, mostTo, childPeriod, longest, load, loadTo, isWhole, owes, side}
 use Rattle.rules.specs.Check as check
 use Rattle.fields.specs.Fields.{byteAt, twoAt, fourAt, typeAt, there, checkType}
 use Rattle.decode.specs.Positions.{coresOf, supplyStart, nodesAt, sizeOf, nodeStart, namesAt, nameStart, endAt}
@@ -62,12 +62,6 @@ use Rattle.guarantee.specs.Needed.{
   betweenWindows,
   OffMultiple,
 }
-
--- a window of slots that are all set holds as many ones as slots
-ones-all : (α : Allocation) → ((n : ℕ) → α n ≡ true) → (s n : ℕ) → ones α s n ≡ n
-unfolding ones
-ones-all α set s zero = refl
-ones-all α set s (suc n) = rw (set (s + n), ones-all α set s n) (add-one n)
 
 -- every core's bit is set in 255
 core-always : (s : ℕ) → s < 8 → (n : ℕ) → slotsOf always s n ≡ true
@@ -167,7 +161,7 @@ computed : NotEmpty × BoundsReached × ShortSupply × DeclinedOnce × OutsideRu
 unfolding
     inRange isFit ones lowest wellFormed written judged step turns onesFrom onesAt leastOnes accepts first test each
     nodeAt supplyAt hosting isHost wantedAs ownType same isChild all allows parentAllowed upTo within soundNode soundSupply counts sound
-    upward coreTo coreOf sumTo mostTo childPeriod longest load loadTo owes side
+    upward coreTo coreOf sumTo mostTo childPeriod longest load loadTo isWhole owes side
     check.holding check.elevenAt check.twelveAt check.alike check.thirteenAt check.fourteenAt check.checkParent check.checkSupply check.checkHost
     check.rules check.checked check.isFit
     byteAt twoAt fourAt typeAt there checkType coresOf supplyStart nodesAt sizeOf nodeStart namesAt nameStart endAt

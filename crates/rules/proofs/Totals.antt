@@ -2,10 +2,34 @@
 use Prim.Native.Nat.{ℕ, zero, suc, _+_, _*_, _≤_, _<_, max}
 use mathlib.Core.Logic.{_⊎_, inl, inr}
 use mathlib.Core.Path.{_≡_, refl, sym, ap}
-use native.Mathlib.Nat.{mul-zero, mul-add, le-refl, eq-or-lt-of-le}
+use native.Mathlib.Nat.{suc-mul, mul-zero, mul-add, le-refl, max-le, eq-or-lt-of-le}
 use native.Mathlib.Decide.{decLe}
 use native.Mathlib.Omega.{arith}
 use Rattle.rules.specs.Fit.{sumTo, mostTo}
+
+module _ (f : ℕ → ℕ) (bound : ℕ) where
+  -- the largest of values that are each at most some bound is so too
+  pub most-bounded : (n : ℕ) → ((i : ℕ) → i < n → f i ≤ bound) → mostTo f n ≤ bound
+  unfolding mostTo
+  most-bounded zero h = omega arith
+  most-bounded (suc n) h = max-le (most-bounded n (λ i l. h i (omega arith))) (h n (omega arith))
+
+  -- and their sum is at most as many times the bound
+  pub sum-bounded : (n : ℕ) → ((i : ℕ) → i < n → f i ≤ bound) → sumTo f n ≤ n * bound
+  unfolding sumTo
+  sum-bounded zero h = omega arith
+  sum-bounded (suc n) h = omega (arith, suc-mul n bound, sum-bounded n (λ i l. h i (omega arith)), h n (omega arith))
+
+-- a longer sum is no less
+pub sum-grows : (f : ℕ → ℕ) (m n : ℕ) → m ≤ n → sumTo f m ≤ sumTo f n
+unfolding sumTo
+sum-grows f zero n l = omega arith
+sum-grows f (suc m) zero l = absurd (omega arith)
+sum-grows f (suc m) (suc n) l = go (eq-or-lt-of-le l) (sum-grows f (suc m) n)
+  where
+    go : (suc m ≡ suc n) ⊎ (suc m < suc n) → (suc m ≤ n → sumTo f (suc m) ≤ sumTo f n) → sumTo f (suc m) ≤ sumTo f n + f n
+    go (inl e) before = omega (arith, ap (sumTo f) e)
+    go (inr h) before = omega (arith, before (omega arith))
 
 -- a sum whose terms are sums of two is the sum of both sums
 pub sum-add : (f g h : ℕ → ℕ) (n : ℕ) → ((i : ℕ) → i < n → h i ≡ f i + g i) → sumTo h n ≡ sumTo f n + sumTo g n

@@ -1,0 +1,71 @@
+-- Plans that kept rules 12 and 14 as document 01 has them keep them as they are now, and only whole parents made a difference. Assumes nothing.
+use Prim.Native.Nat.{ℕ, suc, _*_, _/_, _%_, _≤_}
+use mathlib.Core.Bool.{Bool, true, false, cond}
+use mathlib.Core.Path.{_≡_, refl, sym, ap, _∙_}
+use native.Mathlib.Nat.{le-refl, le-of-eq, le-trans, one-mul, div-one, mod-one, mul-div-le}
+use native.Mathlib.Omega.{arith}
+use borrow.Author.Tests.{eqb-true}
+use Rattle.meaning.specs.declared.SlotType.{SlotType}
+use Rattle.plans.specs.Plan.{servedOf, ownType}
+use Rattle.plans.specs.declared.Parent.{Parent}
+use Rattle.plans.specs.declared.Plan.{Plan}
+use Rattle.rules.specs.Fit.{longest, load, loadTo, isWhole, owes, side, Child, Fit}
+use Rattle.rules.specs.Before.{Rule12Before, Rule14Before}
+use Rattle.rules.specs.Promises.{StaysFit, OnlyWholeMoved}
+use Rattle.rules.proofs.Totals.{sum-grows}
+use Rattle.rules.proofs.KeptFit.{loads-by-child}
+
+-- a parent owes no less than C·(m/T)
+owes-more : (own : SlotType) (m : ℕ) → own .c * (m / own .t) ≤ owes own m
+unfolding isWhole owes
+owes-more own m = go (isWhole own) refl
+  where
+    go : (b : Bool) → isWhole own ≡ b → own .c * (m / own .t) ≤ cond b m (own .c * (m / own .t))
+    go true e = rw (eqb-true (own .c) (own .t) e) (mul-div-le m (own .t))
+    go false e = le-refl (own .c * (m / own .t))
+
+-- plans accepted before stay accepted
+pub stays-fit : StaysFit
+unfolding side
+stays-fit plan before =
+    record {
+      sound = before .sound;
+      rule11 = before .rule11;
+      rule12 = λ x i c part. before .rule12 x i c;
+      rule13 = before .rule13;
+      rule14 = λ x. le-trans (before .rule14 x) (owes-more (ownType plan x) (longest plan x));
+    }
+
+-- a parent owes just C·(m/T) where it is not whole, or where it is every slot of 1
+owes-same : (own : SlotType) (m : ℕ) → (isWhole own ≡ true → own .t ≡ 1) → owes own m ≡ own .c * (m / own .t)
+unfolding isWhole owes
+owes-same own m one = go (isWhole own) refl
+  where
+    go : (b : Bool) → isWhole own ≡ b → cond b m (own .c * (m / own .t)) ≡ own .c * (m / own .t)
+    go true e = sym (rw (eqb-true (own .c) (own .t) e, one e, div-one m) (one-mul m))
+    go false e = refl
+
+-- a plan that fits kept the rules of document 01 too, unless a parent is whole by a longer period
+pub only-whole-moved : OnlyWholeMoved
+unfolding loadTo side
+only-whole-moved plan one fit =
+    record {
+      sound = fit .sound;
+      rule11 = fit .rule11;
+      rule12 = λ x i c. multiple x i c (isWhole (ownType plan x)) refl;
+      rule13 = fit .rule13;
+      rule14 = λ x. loads-by-child plan x _ (plan .size) (le-refl (plan .size)) (λ n c. at-child x n c);
+    }
+  where
+    multiple : (x : Parent) (i : ℕ) → Child plan x i → (b : Bool) → isWhole (ownType plan x) ≡ b → Rule12Before plan x i
+    multiple x i c true e = rw (one x i c e) (mod-one (servedOf plan i .t))
+    multiple x i c false e = fit .rule12 x i c e
+
+    at-child : (x : Parent) (n : ℕ) → Child plan x n → loadTo plan x (suc n) ≤ ownType plan x .c * (longest plan x / ownType plan x .t)
+    at-child x n c =
+        omega (
+          arith,
+          fit .rule14 x,
+          sum-grows (load plan x (longest plan x)) (suc n) (plan .size) (c .there),
+          owes-same (ownType plan x) (longest plan x) (one x n c),
+        )

@@ -1,0 +1,25 @@
+-- Rules 12 and 14 as document 01 has them, for every parent alike: the rules before document 02, request 2. They serve one purpose, to say that plans accepted
+-- before stay accepted. Assumes nothing.
+use Prim.Native.Nat.{ℕ, _*_, _/_, _%_, _≤_}
+use mathlib.Core.Path.{_≡_}
+use Rattle.plans.specs.Plan.{There, servedOf, ownType}
+use Rattle.plans.specs.Sound.{Sound}
+use Rattle.plans.specs.declared.Parent.{Parent}
+use Rattle.plans.specs.declared.Plan.{Plan}
+use Rattle.rules.specs.Fit.{longest, loadTo, Child, Rule11, Rule13}
+
+-- 01, rule 12: "a child's served T is a multiple of the parent's T"
+abbrev pub Rule12Before : Plan → Parent → ℕ → Type 0
+Rule12Before plan x i = servedOf plan i .t % ownType plan x .t ≡ 0
+
+-- 01, rule 14: "at most the parent's C·(M/T)"
+abbrev pub Rule14Before : Plan → Parent → Type 0
+Rule14Before plan x = loadTo plan x (plan .size) ≤ ownType plan x .c * (longest plan x / ownType plan x .t)
+
+-- a plan value that kept 2 to 7 and 11 to 14 as document 01 has them
+pub record FitBefore (plan : Plan) : Type 0 where
+  pub sound : Sound plan
+  pub rule11 : (i : ℕ) → There plan i → Rule11 plan i
+  pub rule12 : (x : Parent) (i : ℕ) → Child plan x i → Rule12Before plan x i
+  pub rule13 : (x : Parent) (i j : ℕ) → Child plan x i → Child plan x j → Rule13 plan i j
+  pub rule14 : (x : Parent) → Rule14Before plan x

@@ -1,4 +1,4 @@
--- What specs/Needed.antt says holds: the checker computes the plans from their bytes, and each run. Assumes nothing.
+-- What specs/Needed.antt and specs/Whole.antt say holds: the checker computes the plans from their bytes, and each run. Assumes nothing.
 use Prim.Native.Nat.{ℕ, zero, suc, _+_, _*_, _%_, _≤_, _<_}
 use mathlib.Core.Bool.{Bool, true, false, not, cond, true≢false}
 use mathlib.Core.List.{List, [], _∷_}
@@ -17,10 +17,11 @@ use Rattle.meaning.proofs.WellFormed.{bounds}
 use Rattle.owed.proofs.Ones.{ones-all}
 use Rattle.types.specs.Verdict.{judged}
 use Rattle.types.specs.Least.{step, turns, onesFrom, onesAt, leastOnes}
-use Rattle.answers.specs.Answers.{Said, accepted, said, accepts, first, test, each}
+use Rattle.answers.specs.Answers.{Said, placed, accepted, said, accepts, first, test, each}
 use Rattle.plans.specs.Plan.{nodeAt, supplyAt, hosting, isHost, wantedAs, ownType, same, isChild}
 use Rattle.plans.specs.Sound.{all, allows, parentAllowed, upTo, within, soundNode, soundSupply, counts, sound}
 use Rattle.plans.specs.Cores.{upward, coreTo, coreOf}
+use Rattle.plans.specs.declared.Parent.the-variants.{Supply, Node as Under}
 use Rattle.plans.specs.declared.Plan.{Plan}
 use Rattle.plans.proofs.All.{all-true-at}
 use Rattle.plans.proofs.Kept.{sound-kept}
@@ -62,6 +63,7 @@ use Rattle.guarantee.specs.Needed.{
   betweenWindows,
   OffMultiple,
 }
+use Rattle.guarantee.specs.Whole.{customer, shorter, hosted, WholeServed, NewlyAccepted, NotQuiteWhole, OverfullByOne}
 
 -- every core's bit is set in 255
 core-always : (s : ℕ) → s < 8 → (n : ℕ) → slotsOf always s n ≡ true
@@ -157,9 +159,9 @@ by-one : (c : Case) (out : List ℕ) → ran (c .plan) (started (c .plan) .state
 by-one c out e h = one-run-too c (record { out = out; ends = e; holds = h })
 
 -- every case is computed
-computed : NotEmpty × BoundsReached × ShortSupply × DeclinedOnce × OutsideRun × OffMultiple
+computed : NotEmpty × BoundsReached × ShortSupply × DeclinedOnce × OutsideRun × OffMultiple × WholeServed × NotQuiteWhole × OverfullByOne
 unfolding
-    inRange isFit ones lowest wellFormed written judged step turns onesFrom onesAt leastOnes accepts first test each
+    inRange isFit ones lowest wellFormed written judged step turns onesFrom onesAt leastOnes placed accepts first test each
     nodeAt supplyAt hosting isHost wantedAs ownType same isChild all allows parentAllowed upTo within soundNode soundSupply counts sound
     upward coreTo coreOf sumTo mostTo childPeriod longest load loadTo isWhole owes side
     check.holding check.elevenAt check.twelveAt check.alike check.thirteenAt check.fourteenAt check.checkParent check.checkSupply check.checkHost
@@ -226,6 +228,31 @@ computed = (
     omega arith,
     accepting betweenWindows refl,
   ),
+  (
+    record {
+      basis = basis customer (by-one customer (replicate 12 9) refl refl) refl;
+      supplied = always-keeps customer refl refl;
+      window = (1, refl);
+      inside = omega arith;
+      nowhere = accepting customer refl;
+    },
+    record {
+      basis = basis shorter (by-one shorter (replicate 12 9) refl refl) refl;
+      supplied = always-keeps shorter refl refl;
+      window = (5, refl);
+      inside = omega arith;
+      nowhere = accepting shorter refl;
+    },
+    record {
+      basis = basis hosted (by-one hosted (replicate 12 9) refl refl) refl;
+      supplied = always-keeps hosted refl refl;
+      window = (1, refl);
+      inside = omega arith;
+      nowhere = accepting hosted refl;
+    },
+  ),
+  (refl, refl, refl, refl),
+  refl,
 )
   where
     -- a run of one, a step, and a run of two
@@ -255,3 +282,24 @@ outside-run = computed .4
 -- so can a window that starts at no multiple of an aligned leaf's period
 pub off-multiple : OffMultiple
 off-multiple = computed .5
+
+-- a partition under a whole parent receives what it asked for, of a core that is shared out to its last slot
+pub whole-served : WholeServed
+whole-served = computed .6
+
+-- by plans that had broken rule 12 as document 01 has it
+pub newly-accepted : NewlyAccepted
+unfolding nodeAt supplyAt ownType
+newly-accepted = (
+  λ before. omega (arith, before .rule12 (Supply 0) 0 (record { there = omega arith; under = refl })),
+  λ before. omega (arith, before .rule12 (Supply 0) 0 (record { there = omega arith; under = refl })),
+  λ before. omega (arith, before .rule12 (Under 0) 1 (record { there = omega arith; under = refl })),
+)
+
+-- under a parent that is not quite whole its children are refused
+pub not-quite-whole : NotQuiteWhole
+not-quite-whole = computed .7
+
+-- and so is one slot more than a whole parent has
+pub overfull-by-one : OverfullByOne
+overfull-by-one = computed .8

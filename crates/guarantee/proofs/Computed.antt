@@ -40,7 +40,7 @@ use Rattle.dispatch.specs.Run as run
 use Rattle.dispatch.specs.Run.{done, started, ran, outAfter}
 use Rattle.dispatch.specs.Reached.{Reached, at-start, by-run, by-step}
 use Rattle.unending.specs.Unending.{leftAt, slotAt, has, charged}
-use Rattle.partitions.specs.Case.{Case, slotsOf, KeepsTypes, OverFirstPart, FromFresh, DeclinesNowhere, asked, receives, received}
+use Rattle.partitions.specs.Case.{Case, slotsOf, KeepsTypes, OverFirstPart, FromFresh, ItsWindow, InsideRun, DeclinesNowhere, asked, receives, received}
 use Rattle.partitions.proofs.Kept.{one-run-too}
 use Rattle.guarantee.specs.Promises.{Accepted}
 use Rattle.guarantee.specs.Needed.{
@@ -158,6 +158,21 @@ by-one : (c : Case) (out : List ℕ) → ran (c .plan) (started (c .plan) .state
     c .buffer ≡ outAfter (c .plan) (started (c .plan) .state) (c .supplies) (c .declines) out → FromFresh c
 by-one c out e h = one-run-too c (record { out = out; ends = e; holds = h })
 
+-- and such a run with every core supplied throughout, in which the partition never declines, meets every hypothesis
+served : (c : Case) {asks gets : ℕ} (out : List ℕ) → ran (c .plan) (started (c .plan) .state) (c .supplies) (c .declines) (length out) .outcome ≡ done →
+    c .buffer ≡ outAfter (c .plan) (started (c .plan) .state) (c .supplies) (c .declines) out →
+    look c ≡ record { answer = accepted; value = c .plan; first = true; there = true; host = false; asks = asks; gets = gets } →
+    sound (c .plan) ≡ true → c .supply ≡ always → all (takes (c .declines) (c .partition)) (length (c .declines)) ≡ true → ItsWindow c → InsideRun c →
+    Meets c asks gets
+served c out ends holds seen kept full takes window inside =
+    record {
+      basis = basis c (by-one c out ends holds) seen;
+      supplied = always-keeps c kept full;
+      window = window;
+      inside = inside;
+      nowhere = accepting c takes;
+    }
+
 -- every case is computed
 computed : NotEmpty × BoundsReached × ShortSupply × DeclinedOnce × OutsideRun × OffMultiple × WholeServed × NotQuiteWhole × OverfullByOne
 unfolding
@@ -177,20 +192,8 @@ unfolding
     leftAt slotAt has charged slotsOf receives begins takes look
 computed = (
   (
-    record {
-      basis = basis logServed (by-one logServed (replicate 10 9) refl refl) refl;
-      supplied = always-keeps logServed refl refl;
-      window = (0, refl);
-      inside = omega arith;
-      nowhere = accepting logServed refl;
-    },
-    record {
-      basis = basis doorServed (by-one doorServed (replicate 10 9) refl refl) refl;
-      supplied = always-keeps doorServed refl refl;
-      window = tt;
-      inside = omega arith;
-      nowhere = accepting doorServed refl;
-    },
+    served logServed (replicate 10 9) refl refl refl refl refl refl (0, refl) (omega arith),
+    served doorServed (replicate 10 9) refl refl refl refl refl refl tt (omega arith),
     record {
       basis = basis duoServed (record { state = _; answers = _; beyond = []; reached = three; holds = refl }) refl;
       supplied = odd-keeps;
@@ -229,27 +232,9 @@ computed = (
     accepting betweenWindows refl,
   ),
   (
-    record {
-      basis = basis customer (by-one customer (replicate 12 9) refl refl) refl;
-      supplied = always-keeps customer refl refl;
-      window = (1, refl);
-      inside = omega arith;
-      nowhere = accepting customer refl;
-    },
-    record {
-      basis = basis shorter (by-one shorter (replicate 12 9) refl refl) refl;
-      supplied = always-keeps shorter refl refl;
-      window = (5, refl);
-      inside = omega arith;
-      nowhere = accepting shorter refl;
-    },
-    record {
-      basis = basis hosted (by-one hosted (replicate 12 9) refl refl) refl;
-      supplied = always-keeps hosted refl refl;
-      window = (1, refl);
-      inside = omega arith;
-      nowhere = accepting hosted refl;
-    },
+    served customer (replicate 12 9) refl refl refl refl refl refl (1, refl) (omega arith),
+    served shorter (replicate 12 9) refl refl refl refl refl refl (5, refl) (omega arith),
+    served hosted (replicate 12 9) refl refl refl refl refl refl (1, refl) (omega arith),
   ),
   (refl, refl, refl, refl),
   refl,

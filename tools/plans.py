@@ -1,5 +1,6 @@
 #!/usr/bin/env python3
-"""Plan bytes from the sentences of document 01, "The plan file", "Rules beyond the bytes" and "Refusal numbers". It knows nothing of the crates.
+"""Plan bytes from the sentences of document 01, "The plan file", "Rules beyond the bytes" and "Refusal numbers", and of document 02, request 2. It knows
+nothing of the crates.
 
   python3 tools/plans.py vectors        the files of crates/vectors_plans/stdin, one a line: a label, the bytes in hex digits (`-` for none) and,
                                         where one stands there, the number of a node whose name is asked for
@@ -126,20 +127,28 @@ def rules(supplies, nodes):
             rules_of_parent(host.wanted, [i for i, node in enumerate(nodes) if node.parent == 128 + h], nodes)
 
 
+def is_whole(own):
+    """A parent with C = T gives all slots."""
+    C, T = own
+    return C == T
+
+
 def rules_of_parent(own, children, nodes):
+    """Rule 12 is not asked under a parent that gives all slots, and its side of rule 14 is M."""
     C, T = own
     period = {i: nodes[i].served[1] for i in children}
     for i in children:
-        if period[i] % T != 0:
+        if not is_whole(own) and period[i] % T != 0:
             raise Refused(12, i)
     for i in children:
         if any(period[i] % period[j] != 0 and period[j] % period[i] != 0 for j in children if j < i):
             raise Refused(13, i)
     M = max(period.values(), default=T)
+    side = M if is_whole(own) else C * (M // T)
     total = 0
     for i in children:
         total += nodes[i].served[0] * (M // period[i])
-        if total > C * (M // T):
+        if total > side:
             raise Refused(14, i)
 
 
@@ -231,8 +240,8 @@ def asked_name(data, i):
 
 def vectors():
     v = Vectors()
-    for group in (examples, counts, ticks, types, kinds_and_parents, depths, names, ends, rule_11, rule_12, rule_13, rule_14, orders, longest,
-                  neighbours):
+    for group in (examples, counts, ticks, types, kinds_and_parents, depths, names, ends, rule_11, rule_12, rule_13, rule_14, whole_supplies,
+                  whole_limits, whole_hosts, not_whole, whole_chains, orders, whole_orders, longest, neighbours):
         group(v.add)
     return v.all
 
@@ -473,6 +482,119 @@ def rule_14(add):
     add("twelve-halvings-over", siblings("1/1", *many, "2/4096"), "refused 14 at 12")
 
 
+WHOLE_CORE = """\
+tick 2500 1
+supply 4/4
+aligned door on 0 wants 1/3 gets 1/3
+aligned log on 0 wants 2/6 gets 2/6
+sliding media on 0 wants 2/10 gets 2/6
+"""
+WHOLE_HOST = """\
+tick 2500 1
+supply 4/4
+host body on 0 wants 4/4 gets 4/4
+aligned door in body wants 1/3 gets 1/3
+aligned log in body wants 3/6 gets 3/6
+aligned spare on 0 wants 0/4 gets 0/4
+"""
+
+
+def whole_supplies(add):
+    """Under a supply of (4,4), and the same under (3,4)."""
+    add("whole-core", WHOLE_CORE, "accepted 3", 2)
+    add("whole-core-but-3-of-4", WHOLE_CORE.replace("supply 4/4", "supply 3/4"), "refused 12 at 0", 2)
+    add("whole-core-overfull-by-one", WHOLE_CORE.replace("2/10 gets 2/6", "2/10 gets 3/6"), "refused 14 at 2", 1)
+    for children, whole, short in (
+            (["1/6"], "accepted 1", "refused 12 at 0"), (["6/6"], "accepted 1", "refused 12 at 0"), (["0/6"], "accepted 1", "refused 12 at 0"),
+            (["5/6", "1/6"], "accepted 2", "refused 12 at 0"), (["5/6", "2/6"], "refused 14 at 1", "refused 12 at 0"),
+            (["3/6", "3/6", "1/6", "0/6"], "refused 14 at 2", "refused 12 at 0"), (["5/6", "1/6", "0/6"], "accepted 3", "refused 12 at 0"),
+            (["1/3", "4/6"], "accepted 2", "refused 12 at 0"), (["1/3", "5/6"], "refused 14 at 1", "refused 12 at 0"),
+            (["4/12", "2/6", "1/3"], "accepted 3", "refused 12 at 1"), (["4/12", "2/6", "1/3", "1/12"], "refused 14 at 3", "refused 12 at 1"),
+            (["0/4", "0/12", "0/2"], "accepted 3", "refused 12 at 2"), (["1/2"], "accepted 1", "refused 12 at 0"),
+            (["2/2"], "accepted 1", "refused 12 at 0"), (["2/2", "1/2"], "refused 14 at 1", "refused 12 at 0"),
+            (["1/2", "2/4"], "accepted 2", "refused 12 at 0"), (["2/4", "1/2", "1/2"], "refused 14 at 2", "refused 12 at 1"),
+            (["1/1"], "accepted 1", "refused 12 at 0"), (["1/1", "1/1"], "refused 14 at 1", "refused 12 at 0"),
+            (["4/4"], "accepted 1", "refused 14 at 0"), (["3/4", "1/4"], "accepted 2", "refused 14 at 1"),
+            (["3/4", "2/8"], "accepted 2", "refused 14 at 1"), (["3/4", "3/8"], "refused 14 at 1", "refused 14 at 1")):
+        shown = "-".join(children).replace("/", "of")
+        add(f"under-4of4-{shown}", siblings("4/4", *children), whole)
+        add(f"under-3of4-{shown}", siblings("3/4", *children), short)
+
+
+def whole_limits(add):
+    """The longest periods, and the shortest: whole is C = T, not one less and not C = 0."""
+    for supply, children, meant in (
+            ("4096/4096", ["4095/4095"], "accepted 1"), ("4096/4096", ["4094/4095", "1/4095"], "accepted 2"),
+            ("4096/4096", ["4095/4095", "1/4095"], "refused 14 at 1"), ("4096/4096", ["1/3", "2730/4095"], "accepted 2"),
+            ("4096/4096", ["1/3", "2731/4095"], "refused 14 at 1"),
+            ("4095/4096", ["1/4095"], "refused 12 at 0"), ("4095/4096", ["4095/4096"], "accepted 1"), ("4095/4096", ["4096/4096"], "refused 14 at 0"),
+            ("4095/4095", ["4096/4096"], "accepted 1"), ("4095/4095", ["4096/4096", "1/4096"], "refused 14 at 1"),
+            ("4094/4095", ["1/4096"], "refused 12 at 0"), ("1/1", ["4095/4095", "0/3"], "accepted 2"), ("2/2", ["4095/4095", "0/3"], "accepted 2"),
+            ("0/4", ["0/6"], "refused 12 at 0"), ("0/4", ["0/2"], "refused 12 at 0"), ("0/4", ["0/8", "0/6"], "refused 12 at 1"),
+            ("0/1", ["0/6"], "accepted 1"), ("0/1", ["1/6"], "refused 14 at 0"), ("0/4096", ["0/4095"], "refused 12 at 0")):
+        add(f"under-{supply}-{'-'.join(children)}".replace("/", "of"), siblings(supply, *children), meant)
+
+
+def in_host(wanted, served, *children, supply="4/4"):
+    lines = (f"aligned n{i} in h wants {t} gets {t}\n" for i, t in enumerate(children))
+    return f"supply {supply}\nhost h on 0 wants {wanted} gets {served}\n" + "".join(lines)
+
+
+def whole_hosts(add):
+    """A host is whole by the type that it wants, and its children are asked by that type."""
+    add("whole-host", WHOLE_HOST, "accepted 4", 3)
+    add("whole-host-but-wants-3-of-4", WHOLE_HOST.replace("wants 4/4", "wants 3/4"), "refused 12 at 1")
+    add("whole-host-but-wants-and-gets-3-of-4", WHOLE_HOST.replace("wants 4/4 gets 4/4", "wants 3/4 gets 3/4"), "refused 12 at 1")
+    add("whole-host-of-a-core-of-3-of-4", WHOLE_HOST.replace("supply 4/4", "supply 3/4"), "refused 14 at 0")
+    add("whole-host-and-core-but-3-of-4", WHOLE_HOST.replace("4/4", "3/4"), "refused 12 at 1")
+    add("whole-host-served-less", WHOLE_HOST.replace("gets 4/4", "gets 3/4"), "refused 11 at 0")
+    add("whole-host-full", WHOLE_HOST.replace("3/6", "4/6"), "accepted 4")
+    add("whole-host-overfull-by-one", WHOLE_HOST.replace("3/6", "5/6"), "refused 14 at 2", 2)
+    for wanted, served, children, meant in (
+            ("4/4", "4/4", ["2/3", "1/3"], "accepted 3"), ("4/4", "4/4", ["2/3", "1/3", "0/6", "1/3"], "refused 14 at 4"),
+            ("4/4", "4/4", ["1/2"], "accepted 2"), ("4/4", "4/4", ["2/2", "1/2"], "refused 14 at 2"), ("5/5", "7/7", ["1/3", "4/6"], "accepted 3"),
+            ("5/5", "7/7", ["1/3", "5/6"], "refused 14 at 2"), ("6/6", "6/6", ["4/4"], "accepted 2"), ("6/6", "6/6", ["9/9"], "accepted 2"),
+            ("1/1", "3/3", ["5/5"], "accepted 2"), ("3/4", "4/4", ["1/12", "1/3"], "refused 12 at 2"), ("3/4", "4/4", ["3/4"], "accepted 2"),
+            ("3/4", "4/4", ["4/4"], "refused 14 at 1")):
+        add(f"host-{wanted}-by-{served}-{'-'.join(children)}".replace("/", "of"), in_host(wanted, served, *children), meant)
+
+
+def not_whole(add):
+    """Hosts that are served whole and want less, and hosts that want nothing."""
+    for wanted, served, children, meant in (
+            ("5/6", "6/6", ["1/4"], "refused 12 at 1"), ("5/6", "6/6", ["1/9"], "refused 12 at 1"), ("5/6", "6/6", ["0/9"], "refused 12 at 1"),
+            ("5/6", "6/6", ["10/12"], "accepted 2"), ("5/6", "6/6", ["11/12"], "refused 14 at 1"), ("5/6", "6/6", ["1/6", "1/3"], "refused 12 at 2"),
+            ("5/6", "6/6", ["5/6"], "accepted 2"), ("5/6", "6/6", ["5/6", "1/12"], "refused 14 at 2"), ("6/6", "6/6", ["6/6"], "accepted 2"),
+            ("4095/4096", "4096/4096", ["1/4095"], "refused 12 at 1"), ("4096/4096", "4096/4096", ["4095/4095"], "accepted 2"),
+            ("0/4", "4/4", ["0/6"], "refused 12 at 1"), ("0/4", "0/4", ["0/6"], "refused 12 at 1"), ("0/4", "0/4", ["0/8"], "accepted 2")):
+        add(f"host-wants-{wanted}-gets-{served}-{'-'.join(children)}".replace("/", "of"), in_host(wanted, served, *children, supply="6/6"), meant)
+
+
+def whole_chain(levels):
+    """Whole hosts, each in the one before, of periods that have no divisor in common, and a leaf that takes all."""
+    whole = [f"{p}/{p}" for p in (3, 7, 5, 11, 13, 8, 17, 19)]
+    lines = ["supply 4/4"] + [f"host h{i} {'on 0' if i == 0 else f'in h{i - 1}'} wants {whole[i]} gets {whole[i + 1]}" for i in range(levels - 1)]
+    return "\n".join(lines + [f"aligned end in h{levels - 2} wants 6/6 gets 6/6\n"])
+
+
+def whole_chains(add):
+    """Whole hosts stand in chains from a whole core: their siblings are served none."""
+    add("whole-chain-of-2", whole_chain(2), "accepted 2")
+    add("whole-chain-of-8", whole_chain(8), "accepted 8", 7)
+    add("whole-chain-of-8-overfull", whole_chain(8) + "aligned more in h6 wants 1/6 gets 1/6\n", "refused 14 at 8")
+    add("whole-chain-of-8-from-3-of-4", whole_chain(8).replace("supply 4/4", "supply 3/4"), "refused 12 at 0")
+    add("whole-chain-broken-in-the-middle", whole_chain(8).replace("wants 11/11", "wants 10/11"), "refused 12 at 4")
+    add("whole-host-beside-a-leaf", in_host("4/4", "6/6") + "aligned a on 0 wants 1/6 gets 1/6\n", "refused 14 at 1")
+    add("whole-host-beside-a-leaf-with-C-0", in_host("4/4", "6/6") + "aligned a on 0 wants 0/6 gets 0/6\n", "accepted 2")
+    add("whole-host-after-a-leaf", "supply 4/4; aligned a on 0 wants 1/6 gets 1/6; host h on 0 wants 4/4 gets 6/6\n", "refused 14 at 1")
+    add("two-whole-cores", "supply 4/4; supply 3/3; aligned a on 0 wants 6/6 gets 6/6; aligned b on 1 wants 4/4 gets 4/4\n", "accepted 2")
+    add("a-whole-core-and-one-of-3-of-4", "supply 4/4; supply 3/4; aligned a on 0 wants 1/6 gets 1/6; aligned b on 1 wants 1/6 gets 1/6\n",
+        "refused 12 at 1")
+    sliding = "supply 4/4; sliding a on 0 wants %s gets 1/3; sliding b on 0 wants 2/10 gets 2/6\n"
+    add("sliding-leaves-of-a-whole-core", sliding % "1/5", "accepted 2")
+    add("sliding-leaves-of-a-whole-core-and-rule-11", sliding % "1/4", "refused 11 at 0")
+
+
 def orders(add):
     """Two faults, of which the document's order picks one."""
     hosts = "supply 1/1; host g on 0 wants 1/2 gets 1/2; host h on 0 wants 1/2 gets 1/2; " \
@@ -497,6 +619,26 @@ def orders(add):
         "supply 1/2; supply 1/2; aligned a on 1 wants 1/3 gets 1/3; aligned b on 0 wants 2/2 gets 2/2\n", "refused 14 at 1")
     add("a-name's-8-before-rule-11", put(lay("supply 1/1; aligned a on 0 wants 1/5 gets 1/4\n"), 27, 32), "refused 8 at 27")
     add("name-count-before-rule-12", put(lay("supply 1/2; aligned a on 0 wants 1/3 gets 1/3\n"), 25, 2), "refused 2 at 25")
+
+
+def whole_orders(add):
+    """The same under whole parents: 13 is still asked, and named before 14."""
+    add("whole-rule-13-before-14", siblings("4/4", "6/6", "4/4"), "refused 13 at 1")
+    add("whole-rule-13-at-a-late-child-before-14-at-an-early-one", siblings("4/4", "6/6", "6/6", "0/4"), "refused 13 at 2")
+    add("whole-rule-13-alone", siblings("4/4", "0/6", "0/4"), "refused 13 at 1")
+    add("whole-rule-13-in-a-host", in_host("4/4", "4/4", "3/3", "1/6", "0/2"), "refused 13 at 3")
+    add("whole-rule-13-in-a-host-where-14-holds", in_host("4/4", "4/4", "1/6", "1/9"), "refused 13 at 2")
+    add("whole-rule-11-at-a-late-node-before-13", siblings("4/4", "0/6", "0/4") + "aligned z on 0 wants 1/5 gets 1/4\n", "refused 11 at 2")
+    two = "supply 4/4; supply 3/4; aligned a on 1 wants 1/6 gets 1/6; aligned b on 0 wants 6/6 gets 6/6; aligned c on 0 wants %s gets %s\n"
+    add("a-whole-supply's-14-before-the-next-one's-12", two % ("1/6", "1/6"), "refused 14 at 2")
+    add("a-whole-supply's-13-before-the-next-one's-12", two % ("0/4", "0/4"), "refused 13 at 2")
+    add("a-whole-supply-in-order-and-the-next-one's-12", two % ("0/6", "0/6"), "refused 12 at 0")
+    host = "supply 4/4; host h on 0 wants 5/6 gets 6/6; aligned a in h wants 1/4 gets 1/4; aligned b on 0 wants %s gets %s\n"
+    add("a-whole-supply's-14-before-a-host's-12", host % ("1/6", "1/6"), "refused 14 at 2")
+    add("a-whole-supply's-13-before-a-host's-12", host % ("0/4", "0/4"), "refused 13 at 2")
+    add("a-whole-supply-in-order-and-a-host's-12", host % ("0/3", "0/3"), "refused 12 at 1")
+    add("a-whole-host's-14-before-a-later-host's-12", in_host("4/4", "4/4", "3/3") + "host g in h wants 0/2 gets 0/3\n"
+        "aligned a in g wants 0/3 gets 0/3; aligned b in h wants 1/3 gets 1/3\n", "refused 14 at 4")
 
 
 def long_plan():

@@ -76,6 +76,9 @@ EXAMPLES = {
     "two_cores": plans.lay(TWO_CORES),
     "eight_levels": plans.lay(EIGHT_LEVELS),
     "quick_slots": plans.lay(QUICK_SLOTS),
+    "whole_core": plans.lay(plans.WHOLE_CORE),
+    "whole_host": plans.lay(plans.WHOLE_HOST),
+    "nearly_whole": plans.lay(plans.WHOLE_CORE.replace("supply 4/4", "supply 3/4")),
     "overfull": plans.lay(OVERFULL),
     "cut_off": plans.lay(plans.EXAMPLE)[:44],
 }

@@ -3,18 +3,22 @@
 
   python3 tools/slots.py cases          the cases of crates/vectors_dispatch/stdin, one a line
   python3 tools/slots.py expect         what the program of that crate has to print
+  python3 tools/slots.py check          demand 3 tried on plans with whole parents, with declines that follow no pattern (seconds)
 
 A case is a label, an accepted plan in hex digits, any number of edits `with WHAT INDEX VALUE`, and what is done: `fresh`, or `run` with supply bytes
-(hex), decline words (hex, a comma between two) and room, or `steps` with supply bytes and decline words; `-` stands for none. The state is the
-plan's fresh one. An edit changes the plan value (P, Q, the numbers S of supplies and N of nodes, supply, kind, parent, wants, gets) or the state
-(clock, left).
+(hex), decline words (hex, a comma between two) and room, or `demand` with the same, or `steps` with supply bytes and decline words; `-` stands for
+none. The state is the plan's fresh one. An edit changes the plan value (P, Q, the numbers S of supplies and N of nodes, supply, kind, parent, wants,
+gets) or the state (clock, left).
 What comes of it is printed as outcome, clock, the counts left (of all nodes, and on to the last that is not 0) and the room: a leaf, `-` idle, `x` not
-supplied, `.` not written; a comma stands between the cores of a slot. Of steps the outcome and eight answers of each come first.
+supplied, `.` not written; a comma stands between the cores of a slot. Of steps the outcome and eight answers of each come first. `demand` is a run
+and then, for each leaf, its wanted type and how many slots it received in each of its wanted windows inside the run.
 """
-import sys
+import random, sys
 
 sys.dont_write_bytecode = True
-from plans import EXAMPLE, Node, Refused, chain, depth, lay, names_a_parent, read, rules, siblings, type_of, well_formed
+import pairs
+from plans import (EXAMPLE, WHOLE_CORE, WHOLE_HOST, Node, Plan, Refused, chain, depth, in_host, lay, names_a_parent, read, rules, siblings, type_of,
+                   well_formed, whole_chain)
 
 LAST = 2 ** 40
 IDLE, NOT_SUPPLIED, NOT_WRITTEN = 254, 255, 200
@@ -106,6 +110,48 @@ def walk(value, state, parent, declined):
     return walk(value, state, 128 + i, declined) if value.nodes[i].kind == 2 else i
 
 
+# Demand 3
+
+
+def leaves(value):
+    return [i for i, node in enumerate(value.nodes[:value.size]) if node.kind != 2]
+
+
+def windows(node, slots):
+    """The starts of a leaf's wanted windows inside so many slots: multiples of the wanted T for an aligned leaf, every slot for a sliding one."""
+    T = node.wanted[1]
+    return range(0, slots - T + 1, T if node.kind == 0 else 1)
+
+
+def received(value, i, answers, start):
+    """How many slots of its wanted window from `start` leaf i received."""
+    return answers[start * value.cores:(start + value.nodes[i].wanted[1]) * value.cores].count(i)
+
+
+def keeps_types(value, supplied):
+    """Whether each core is supplied in C slots of each of its periods; the slots after the run may be supplied."""
+    return all(sum(byte >> k & 1 for byte in supplied[b:b + T]) + max(0, b + T - len(supplied)) >= C
+               for k, (C, T) in enumerate(value.supplies[:value.cores]) for b in range(0, len(supplied), T))
+
+
+def declines_near(node, i, declined, start):
+    """Whether leaf i declines in a slot of its served periods that touch its wanted window from `start`."""
+    T, end = node.served[1], start + node.wanted[1]
+    return any(word >> i & 1 for word in declined[start // T * T:(end + T - 1) // T * T])
+
+
+def demand(value, supplied, declined, answers):
+    """Asserts demand 3 of a run from a fresh start, and says in how many windows it spoke."""
+    spoken = 0
+    for i in leaves(value) if keeps_types(value, supplied) else ():
+        node = value.nodes[i]
+        for start in windows(node, len(supplied)):
+            if not declines_near(node, i, declined, start):
+                assert received(value, i, answers, start) >= node.wanted[0], (value.supplies, value.nodes[:value.size], i, start)
+                spoken += 1
+    return spoken
+
+
 # Cases
 
 
@@ -119,7 +165,7 @@ class Case:
         words = [self.label, self.data.hex()] + [f"with {edit}" for edit in self.edits] + [self.verb]
         if self.verb != "fresh":
             words += [bytes(self.supplied).hex() or "-", ",".join(f"{word:x}" for word in self.declined) or "-"]
-        return " ".join(words + ([str(self.room)] if self.verb == "run" else []))
+        return " ".join(words + ([str(self.room)] if self.verb in ("run", "demand") else []))
 
     def said(self):
         value = Value(read(self.data))
@@ -129,11 +175,21 @@ class Case:
         if self.verb == "fresh":
             outcome, state = fresh(value)
             return f"{self.label}: {called(outcome)}, {counted(value, state)}"
-        if self.verb == "run":
+        if self.verb in ("run", "demand"):
             outcome, room = run(value, state, self.supplied, self.declined, self.room)
-            return f"{self.label}: {called(outcome)}, {counted(value, state)}, room{listed(room, value.cores)}"
+            shown = f"{self.label}: {called(outcome)}, {counted(value, state)}, room{listed(room, value.cores)}"
+            return shown + (self.demanded(value, room) if self.verb == "demand" else "")
         steps = [step(value, state, *both) for both in zip(self.supplied, self.declined)]
         return f"{self.label}: " + "".join(f"step {called(outcome)}{listed(eight, 8)}, " for outcome, eight in steps) + counted(value, state)
+
+    def demanded(self, value, answers):
+        assert not self.edits and demand(value, self.supplied, self.declined, answers) > 0, self.label
+        shown = ""
+        for i in leaves(value):
+            node = value.nodes[i]
+            counts = "".join(f" {received(value, i, answers, start)}" for start in windows(node, len(self.supplied)))
+            shown += f", leaf {i} wants {node.wanted[0]}/{node.wanted[1]} received{counts}"
+        return shown
 
 
 def edited(value, state, what, index, number):
@@ -214,10 +270,12 @@ def cases():
         if steps and supplied and room is None and len(supplied) == len(declined):
             found.append(Case(label + "-by-steps", plan, edits, "steps", supplied, declined))
 
-    for group in (plain, declining, supplying, trees, states, refused_plans, refused_runs, orders, varied):
+    for group in (plain, declining, supplying, trees, whole_parents, states, refused_plans, refused_runs, orders, varied):
         group(run_case)
     for label, plan, edits in fresh_starts():
         found.append(Case(label, plan, edits, "fresh"))
+    for label, plan, supplied, declined in demands():
+        found.append(Case(label, plan, (), "demand", supplied, declined, len(supplied) * len(read(lay(plan)).supplies)))
     assert len({case.label for case in found}) == len(found)
     return found
 
@@ -269,6 +327,35 @@ def trees(case):
     case("depth-8-every-host's-bit-set", chain(8), 4, decline=0x7f)
     case("idle-hosts-stay-charged", TREE, 16, decline=0b100)
     case("tree", TREE, 24)
+
+
+WHOLE_EDITS = (  # edits of plans with whole parents, each beside the number that the value then breaks, 0 for none
+    (0, "whole-core-as-1-of-1", WHOLE_CORE, "supply 0 1/1"), (0, "whole-core-as-6-of-6", WHOLE_CORE, "supply 0 6/6"),
+    (0, "whole-core-as-4096-of-4096", WHOLE_CORE, "supply 0 4096/4096"), (12, "whole-core-but-3-of-4", WHOLE_CORE, "supply 0 3/4"),
+    (12, "whole-core-but-0-of-4", WHOLE_CORE, "supply 0 0/4"), (13, "whole-core-rule-13", WHOLE_CORE, "gets 1 2/4"),
+    (14, "whole-core-overfull-by-one", WHOLE_CORE, "gets 2 3/6"), (0, "whole-host-full", WHOLE_HOST, "gets 2 4/6"),
+    (14, "whole-host-overfull-by-one", WHOLE_HOST, "gets 2 5/6"), (12, "whole-host-but-wants-3-of-4", WHOLE_HOST, "wants 0 3/4"),
+    (14, "whole-host-and-a-sibling", WHOLE_HOST, "gets 3 1/4"), (14, "whole-host-of-a-core-of-3-of-4", WHOLE_HOST, "supply 0 3/4"),
+    (12, "whole-host-but-wants-5-of-6", in_host("6/6", "6/6", "1/4"), "wants 0 5/6"), (11, "whole-host-served-less", WHOLE_HOST, "gets 0 3/4"))
+
+
+def whole_parents(case):
+    case("whole-core", WHOLE_CORE, 12)
+    case("whole-core-door-declines-once", WHOLE_CORE, 12, decline=[1] + [0] * 11)
+    case("whole-core-door-declines-a-period", WHOLE_CORE, 12, decline=[1] * 3 + [0] * 9)
+    case("whole-core-log-declines-always", WHOLE_CORE, 12, decline=2)
+    case("whole-core-a-slot-short-in-each-frame", WHOLE_CORE, 12, supply=[1, 1, 0, 1] * 3)
+    case("whole-host", WHOLE_HOST, 12)
+    case("whole-host-all-decline", WHOLE_HOST, 12, decline=[0, 6, 6, 0] * 3)
+    case("whole-chain-of-8", whole_chain(8), 14)
+    case("whole-chain-of-8-the-leaf-declines", whole_chain(8), 14, decline=[0x80, 0] * 7)
+    case("whole-core-with-children-of-period-2", siblings("4/4", "1/2", "1/2"), 6)
+    case("whole-core-with-the-longest-odd-period", siblings("4096/4096", "4094/4095", "1/4095"), 3)
+    for number, label, plan, edit in WHOLE_EDITS:
+        value = Value(read(lay(plan)))
+        edited(value, State(0, []), *edit.split())
+        assert value.broken() == number, (label, value.broken())
+        case("plan-value-" + label, plan, 6, edits=(edit,), room=6)
 
 
 def states(case):
@@ -377,8 +464,63 @@ def fresh_starts():
     yield "fresh-longest-counts", "supply 1/1; aligned a on 0 wants 4096/4096 gets 4096/4096\n", ()
     for _, label, edit in SPOILT:
         yield "fresh-" + label, EXAMPLE, (edit,)
+    yield "fresh-whole-core", WHOLE_CORE, ()
+    for _, label, plan, edit in WHOLE_EDITS:
+        yield "fresh-" + label, plan, (edit,)
     yield "fresh-ignores-junk", EXAMPLE, ("kind 3 2", "gets 3 9/0", "supply 1 9/0")
     yield "fresh-whatever-the-state-was", EXAMPLE, ("clock 0 5", "left 0 0")
+
+
+def demands():
+    """Runs from a fresh start in which the supply keeps its types."""
+    for label, plan, slots in (("example", EXAMPLE, 20), ("tree", TREE, 32), ("whole-core", WHOLE_CORE, 24), ("whole-host", WHOLE_HOST, 24),
+                               ("whole-chain-of-8", whole_chain(8), 24), ("whole-core-with-children-of-period-2", siblings("4/4", "1/2", "1/2"), 8)):
+        yield "demand-" + label, plan, [0xff] * slots, [0] * slots
+    yield "demand-two-cores-supplied-as-little-as-they-may", TWO, [3, 1, 1, 3] * 8, [0] * 32
+    yield "demand-whole-core-log-and-media-decline-always", WHOLE_CORE, [1] * 24, [6] * 24
+    yield "demand-whole-core-the-others-decline-now-and-then", WHOLE_CORE, [1] * 24, [1, 2, 0, 3, 0, 0, 2, 1] * 3
+    yield "demand-whole-host-door-declines-every-fifth-slot", WHOLE_HOST, [1] * 24, [2 if n % 5 == 0 else 0 for n in range(24)]
+
+
+# Trial
+
+
+def tried_plan(draw):
+    """A plan value with a whole supply of any period, up to three whole hosts in a chain, and nodes in the last that share its slots."""
+    nodes = []
+    for i in range(draw(range(4))):
+        wanted, served = draw(range(1, 10)), draw(range(1, 10))
+        nodes.append(Node(2, 127 + i if i else 0, (wanted, wanted), (served, served)))
+    nodes += sharing(draw, 127 + len(nodes) if nodes else 0, draw((4, 6, 8, 9, 10, 12)))
+    T = draw(range(1, 10))
+    value = Value(Plan(1, 1, [(T, T)], nodes, []))
+    assert value.broken() == 0, nodes
+    return value
+
+
+def sharing(draw, parent, M):
+    """Leaves with periods that divide M and each other, and all of M slots among them. Each wants the most that its served type stands in for."""
+    leaves, left = [], M
+    while left > 0:
+        periods = [t for t in range(1, M + 1) if M % t == 0 and all(t % leaf.served[1] == 0 or leaf.served[1] % t == 0 for leaf in leaves)]
+        T = draw(periods) if len(leaves) < 4 else M
+        C = draw(range(left * T // M + 1)) if len(leaves) < 4 else left
+        kind, wanted = draw((0, 1)), draw(range(1, 2 * T + 3))
+        windows = pairs.each_window(("aligned", C, T), (("aligned", "sliding")[kind], 0, wanted), pairs.argued)
+        leaves.append(Node(kind, parent, (min(ones for _, ones in windows), wanted), (C, T)))
+        left -= C * (M // T)
+    return leaves
+
+
+def check():
+    """How many windows demand 3 spoke of, in runs with declines that follow no pattern."""
+    draw, spoken = random.Random(1).choice, 0
+    for _ in range(3000):
+        value, slots = tried_plan(draw), 36
+        declined = [draw(range(2 ** value.size)) & draw(range(2 ** value.size)) & draw(range(2 ** value.size)) for _ in range(slots)]
+        _, answers = run(value, fresh(value)[1], [1] * slots, declined, slots)
+        spoken += demand(value, [1] * slots, declined, answers)
+    return spoken
 
 
 def main(words):
@@ -388,6 +530,8 @@ def main(words):
         print(text)
     elif words == ["expect"]:
         print("\n".join(case.said() for case in cases()))
+    elif words == ["check"]:
+        print(f"{check()} windows of plans with whole parents have what was wanted")
     else:
         sys.exit(__doc__)
 

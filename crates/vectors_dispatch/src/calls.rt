@@ -3,14 +3,15 @@ ghost use Prim.Native.Nat.{_≤_};
 ghost use lib.ListN.{length};
 use crate::edits::Case;
 use crate::show;
+use crate::windows;
 
 pub fn fresh(case: Case) {
     let ran = dispatch::fresh(case.plan);
     show::ran(ran, case.plan.size);
 }
 
-// A run on the bytes and words that two words of the input spell, and its room afterwards.
-pub fn run(case: Case, supplies: &[u8], declines: &[u8], room: u64) {
+// A run on the bytes and words that two words of the input spell, and its room afterwards; where demand 3 is asked for, the windows of each leaf too.
+pub fn run(case: Case, supplies: &[u8], declines: &[u8], room: u64, demand: bool) {
     let mut supplied = [0u8; 64];
     let mut declined = [0u64; 64];
     let mut out = [200u8; 512];
@@ -23,6 +24,7 @@ pub fn run(case: Case, supplies: &[u8], declines: &[u8], room: u64) {
             &mut supplied,
             &mut declined,
             &mut out[0..n],
+            demand,
         );
     }
 }
@@ -35,6 +37,7 @@ fn run_on(
     supplied: &mut [u8],
     declined: &mut [u64],
     out: &mut [u8],
+    demand: bool,
 ) {
     let k = lines::bytes(supplies, supplied);
     let d = hex_words(declines, declined);
@@ -42,6 +45,9 @@ fn run_on(
     show::ran(ran, case.plan.size);
     show::print(b", room");
     show::answers(out, case.plan.cores);
+    if demand {
+        windows::all(case.plan, out);
+    }
 }
 
 // A step for each slot, each from the state that the one before handed back.

@@ -1,9 +1,10 @@
 // Gives out slots by `dispatch` as standard input asks, and prints what comes of it, a line a case: a label, a plan in hex, any number of edits
 // `with left 1 2`, and what is done, as `run ff01 0,4 2`: supply bytes, decline words and room. tools/slots.py says it in full.
-// What it must print is worked out from document 01, by `python3 tools/slots.py expect`; `python3 tools/slots.py cases` makes its input.
+// What it must print is worked out from documents 01 and 02, by `python3 tools/slots.py expect`; `python3 tools/slots.py cases` makes its input.
 mod calls;
 mod edits;
 mod show;
+mod windows;
 
 use edits::Case;
 
@@ -52,12 +53,11 @@ fn call(line: &[u8], case: Case) {
     let declines = lines::past(line, supplies, b' ');
     let supplied = lines::part(line, supplies, b' ');
     let declined = lines::part(line, declines, b' ');
+    let room = lines::decimal(line, lines::past(line, declines, b' '), b' ');
     match lines::byte(line, at) {
         b'f' => calls::fresh(case),
-        b'r' => {
-            let room = lines::past(line, declines, b' ');
-            calls::run(case, supplied, declined, lines::decimal(line, room, b' '));
-        }
-        _ => calls::steps(case, supplied, declined),
+        b's' => calls::steps(case, supplied, declined),
+        b'd' => calls::run(case, supplied, declined, room, true),
+        _ => calls::run(case, supplied, declined, room, false),
     }
 }

@@ -9,7 +9,7 @@ pub fn print(words: &[u8]) {
     io::write_all(libc::STDOUT_FILENO, words);
 }
 
-fn number(words: &[u8], n: u64) {
+pub fn number(words: &[u8], n: u64) {
     print(words);
     io::print_decimal(libc::STDOUT_FILENO, n);
 }

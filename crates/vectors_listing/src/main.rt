@@ -1,6 +1,6 @@
 // Lists the plans of standard input, one a line: `example 01e8..` is a label and the bytes in hex. Under its label each listing is printed, and then
 // what comes of a room that is one byte short.
-// The plans are those of examples/. What it must print is worked out from document 01, by `python3 tools/listing.py expect`;
+// The plans are those of examples/. What it must print is worked out from documents 01 and 02, by `python3 tools/listing.py expect`;
 // `python3 tools/listing.py plans` makes its input.
 use listing::Listed;
 

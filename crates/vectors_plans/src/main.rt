@@ -1,6 +1,6 @@
 // Reads the plan files of standard input and prints what `reader` says of each, a line a file: `example 01e8.. 3` is a label, the bytes in hex, and,
 // where it stands there, a node whose name is asked for besides those of an accepted plan.
-// What it must print is worked out from document 01, by `python3 tools/plans.py expect`; `python3 tools/plans.py vectors` makes its input.
+// What it must print is worked out from documents 01 and 02, by `python3 tools/plans.py expect`; `python3 tools/plans.py vectors` makes its input.
 mod show;
 
 fn main() {

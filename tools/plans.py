@@ -507,11 +507,13 @@ def whole_supplies(add):
     for children, whole, short in (
             (["1/6"], "accepted 1", "refused 12 at 0"), (["6/6"], "accepted 1", "refused 12 at 0"), (["0/6"], "accepted 1", "refused 12 at 0"),
             (["5/6", "1/6"], "accepted 2", "refused 12 at 0"), (["5/6", "2/6"], "refused 14 at 1", "refused 12 at 0"),
+            (["2/6", "4/6"], "accepted 2", "refused 12 at 0"), (["2/6", "5/6"], "refused 14 at 1", "refused 12 at 0"),
             (["3/6", "3/6", "1/6", "0/6"], "refused 14 at 2", "refused 12 at 0"), (["5/6", "1/6", "0/6"], "accepted 3", "refused 12 at 0"),
             (["1/3", "4/6"], "accepted 2", "refused 12 at 0"), (["1/3", "5/6"], "refused 14 at 1", "refused 12 at 0"),
             (["4/12", "2/6", "1/3"], "accepted 3", "refused 12 at 1"), (["4/12", "2/6", "1/3", "1/12"], "refused 14 at 3", "refused 12 at 1"),
             (["0/4", "0/12", "0/2"], "accepted 3", "refused 12 at 2"), (["1/2"], "accepted 1", "refused 12 at 0"),
             (["2/2"], "accepted 1", "refused 12 at 0"), (["2/2", "1/2"], "refused 14 at 1", "refused 12 at 0"),
+            (["1/2", "3/6"], "accepted 2", "refused 12 at 0"), (["1/2", "4/6"], "refused 14 at 1", "refused 12 at 0"),
             (["1/2", "2/4"], "accepted 2", "refused 12 at 0"), (["2/4", "1/2", "1/2"], "refused 14 at 2", "refused 12 at 1"),
             (["1/1"], "accepted 1", "refused 12 at 0"), (["1/1", "1/1"], "refused 14 at 1", "refused 12 at 0"),
             (["4/4"], "accepted 1", "refused 14 at 0"), (["3/4", "1/4"], "accepted 2", "refused 14 at 1"),

@@ -474,11 +474,13 @@ def fresh_starts():
 def demands():
     """Runs from a fresh start in which the supply keeps its types."""
     for label, plan, slots in (("example", EXAMPLE, 20), ("tree", TREE, 32), ("whole-core", WHOLE_CORE, 24), ("whole-host", WHOLE_HOST, 24),
-                               ("whole-chain-of-8", whole_chain(8), 24), ("whole-core-with-children-of-period-2", siblings("4/4", "1/2", "1/2"), 8)):
+                               ("whole-host-full", WHOLE_HOST.replace("3/6", "4/6"), 24), ("whole-chain-of-8", whole_chain(8), 24),
+                               ("whole-core-with-children-of-period-6", siblings("4/4", "2/6", "4/6"), 24),
+                               ("whole-core-with-a-child-of-period-2", siblings("4/4", "1/2", "3/6"), 24)):
         yield "demand-" + label, plan, [0xff] * slots, [0] * slots
     yield "demand-two-cores-supplied-as-little-as-they-may", TWO, [3, 1, 1, 3] * 8, [0] * 32
     yield "demand-whole-core-log-and-media-decline-always", WHOLE_CORE, [1] * 24, [6] * 24
-    yield "demand-whole-core-the-others-decline-now-and-then", WHOLE_CORE, [1] * 24, [1, 2, 0, 3, 0, 0, 2, 1] * 3
+    yield "demand-whole-core-door-and-log-decline-now-and-then", WHOLE_CORE, [1] * 24, [1, 2, 0, 3, 0, 0, 2, 1] * 3
     yield "demand-whole-host-door-declines-every-fifth-slot", WHOLE_HOST, [1] * 24, [2 if n % 5 == 0 else 0 for n in range(24)]
 
 

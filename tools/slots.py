@@ -336,7 +336,9 @@ WHOLE_EDITS = (  # edits of plans with whole parents, each beside the number tha
     (14, "whole-core-overfull-by-one", WHOLE_CORE, "gets 2 3/6"), (0, "whole-host-full", WHOLE_HOST, "gets 2 4/6"),
     (14, "whole-host-overfull-by-one", WHOLE_HOST, "gets 2 5/6"), (12, "whole-host-but-wants-3-of-4", WHOLE_HOST, "wants 0 3/4"),
     (14, "whole-host-and-a-sibling", WHOLE_HOST, "gets 3 1/4"), (14, "whole-host-of-a-core-of-3-of-4", WHOLE_HOST, "supply 0 3/4"),
-    (12, "whole-host-but-wants-5-of-6", in_host("6/6", "6/6", "1/4"), "wants 0 5/6"), (11, "whole-host-served-less", WHOLE_HOST, "gets 0 3/4"))
+    (11, "whole-host-served-less", WHOLE_HOST, "gets 0 3/4"), (12, "core-of-3-of-4-and-room-enough", siblings("4/4", "1/6"), "supply 0 3/4"),
+    (12, "core-of-0-of-4-and-nobody-asks", siblings("4/4", "0/6"), "supply 0 0/4"),
+    (12, "host-that-wants-5-of-6-and-room-enough", in_host("6/6", "6/6", "1/9"), "wants 0 5/6"))
 
 
 def whole_parents(case):

@@ -16,7 +16,7 @@ pub fn all(plan: Plan, answers: &[u8]) {
     }
 }
 
-// A window starts at every wanted T slots for an aligned leaf and at every slot for a sliding one.
+// The windows of an aligned leaf start at the multiples of its wanted T, those of a sliding one at every slot. A host has none.
 fn node(node: Node, i: usize, cores: usize, answers: &[u8])
     requires { ⌜ cores ≤ 8 ⌝ }
     requires { ⌜ i < 64 ⌝ }

@@ -22,8 +22,9 @@ use Rattle.unending.specs.Unending.{charged}
 use Rattle.unending.proofs.Kept.{granted-exactly, balance-after}
 use Rattle.levels.proofs.Books.{never-over-yet}
 use Rattle.partitions.specs.Case.{Case, FromFresh, IsPartition, DeclinesNowhere, receives, period}
-use Rattle.partitions.specs.Promises.{Served, NeverServedMore, NeverChargedMore, CountsTell, OneRunToo}
+use Rattle.partitions.specs.Promises.{Served, WholeGivesAll, NeverServedMore, NeverChargedMore, CountsTell, OneRunToo}
 use Rattle.partitions.proofs.Dispatched.{dispatcher-keeps}
+use Rattle.partitions.proofs.Tree.{whole-gives}
 use Rattle.partitions.proofs.Window.{window-served}
 use Rattle.partitions.proofs.Run.{listed, run-granted, run-left}
 
@@ -60,7 +61,12 @@ served c fit supplied first fresh is window inside nowhere =
     (window-served (c .plan) fit (c .supply) (listed (c .declines)) (dispatcher-keeps (c .plan) fit (c .supply) (listed (c .declines))) supplied
     (c .partition) (is .there) (c .window) window (declines-nowhere c nowhere))
 
--- no node, partition or host, is charged more than its served number in a served period, whole or not
+-- a whole parent may give every slot
+pub whole-gives-all : WholeGivesAll
+whole-gives-all c fit supplied declines x i child whole n =
+    whole-gives (c .plan) fit (c .supply) declines (dispatcher-keeps (c .plan) fit (c .supply) declines) supplied x i child whole n
+
+-- no node, partition or host, is charged more than its served number in a served period or in so much of one
 pub never-charged-more : NeverChargedMore
 unfolding servedC servedT
 never-charged-more plan fit supply declines i b n l part = never-over-yet (dispatcher-keeps plan fit supply declines .books i l) b n part

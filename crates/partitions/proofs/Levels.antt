@@ -93,10 +93,19 @@ module _ (plan : Plan) (supply declines : ℕ → ℕ) where
     in-plan c = record { there = c .there; under = parent-of-child plan x i (c .is) }
 
   module _ (fit : Fit plan) (x : Parent) (i : ℕ) (c : Child plan x i) where
+    -- a whole parent that honours its own type may give every slot
+    pub every-slot : Honours Aligned (ownType plan x) (may plan supply declines x) → isWhole (ownType plan x) ≡ true →
+        (n : ℕ) → may plan supply declines x n ≡ true
+    unfolding isWhole
+    every-slot honours whole =
+        let own : SlotType = ownType plan x in
+        let some = bounds own (parent-formed plan (fit .sound) x i c) .some in
+        honours-every Aligned own some (eqb-true (own .c) (own .t) whole) (may plan supply declines x) honours
+
     -- where a parent honours its own type it gives what it owes in each served period of a child: every slot where it is whole, and otherwise by rule 12
     gives-owed : Honours Aligned (ownType plan x) (may plan supply declines x) → (b : ℕ) →
         owes (ownType plan x) (servedT plan i) ≤ ones (may plan supply declines x) (b * servedT plan i) (servedT plan i)
-    unfolding servedT isWhole owes
+    unfolding servedT owes
     gives-owed honours b = go (isWhole own) refl
       where
         own : SlotType
@@ -104,10 +113,7 @@ module _ (plan : Plan) (supply declines : ℕ → ℕ) where
 
         go : (w : Bool) → isWhole own ≡ w →
             cond w (servedT plan i) (own .c * (servedT plan i / own .t)) ≤ ones (may plan supply declines x) (b * servedT plan i) (servedT plan i)
-        go true e =
-            let some = bounds own (parent-formed plan (fit .sound) x i c) .some in
-            let every = honours-every Aligned own some (eqb-true (own .c) (own .t) e) (may plan supply declines x) honours in
-            le-of-eq (sym (ones-all (may plan supply declines x) every (b * servedT plan i) (servedT plan i)))
+        go true e = le-of-eq (sym (ones-all (may plan supply declines x) (every-slot honours e) (b * servedT plan i) (servedT plan i)))
         go false e =
             at-least (own .c) (own .t) (may plan supply declines x) (λ k. honours (k * own .t) (k, refl)) (servedT plan i) (fit .rule12 x i c e) b
 

@@ -1,5 +1,5 @@
--- Down the tree: under a supply that keeps its types, the slots offered to each node of a fit plan honour its served type, aligned. By induction on the
--- node's number, since a host's is lower than its children's. Assumes nothing.
+-- Down the tree: under a supply that keeps its types, the slots offered to each node of a fit plan honour its served type, aligned, and whole parents may give
+-- every slot. By induction on the node's number, since a host's is lower than its children's. Assumes nothing.
 use Prim.Native.Nat.{ℕ, zero, suc, _<_}
 use mathlib.Core.Bool.{Bool, true, false}
 use mathlib.Core.Path.{_≡_, refl}
@@ -16,13 +16,13 @@ use Rattle.plans.specs.declared.Parent.the-variants.{Supply, Node as Under}
 use Rattle.plans.specs.declared.Plan.{Plan}
 use Rattle.plans.proofs.Entries.{host-hosting}
 use Rattle.plans.proofs.Parents.{supply-there, host-earlier, host-hosts}
-use Rattle.rules.specs.Fit.{Fit}
+use Rattle.rules.specs.Fit.{isWhole, Child, Fit}
 use Rattle.dispatch.specs.View.{isLeaf, servedC, servedT}
 use Rattle.unending.specs.Unending.{charged, may}
 use Rattle.levels.specs.Level.{Offered}
 use Rattle.levels.proofs.Level.{offered-honours}
 use Rattle.partitions.specs.Case.{slotsOf}
-use Rattle.partitions.proofs.Levels.{levelOf, Keeps, in-level, level-kept}
+use Rattle.partitions.proofs.Levels.{levelOf, Keeps, in-level, every-slot, level-kept}
 
 -- a host wants its type aligned
 wanted-aligned : (k : NodeKind) → k ≡ Host → wantedAs k ≡ Aligned
@@ -73,3 +73,7 @@ module _ (plan : Plan) (fit : Fit plan) (supply declines : ℕ → ℕ) (keeps :
       (α : Allocation) → ((n : ℕ) → Offered (levelOf plan supply declines (parentOf plan i)) i n → α n ≡ true) →
       Honours Aligned (servedOf plan i) α
   offered-served i l = below i l (parent-honours (suc i) i (le-refl (suc i)) l)
+
+  -- and a parent that is whole may give every slot
+  pub whole-gives : (x : Parent) (i : ℕ) → Child plan x i → isWhole (ownType plan x) ≡ true → (n : ℕ) → may plan supply declines x n ≡ true
+  whole-gives x i c = every-slot plan supply declines fit x i c (rw (c .under) at (parent-honours (suc i) i (le-refl (suc i)) (c .there)))

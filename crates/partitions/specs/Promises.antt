@@ -1,12 +1,14 @@
 -- Demand 3 for a plan value that fits. Why each holds is in proofs/. Assumes nothing.
 use Prim.Native.Nat.{ℕ, suc, _+_, _*_, _≤_, _<_}
+use mathlib.Core.Bool.{true}
 use mathlib.Core.Path.{_≡_}
 use lib.ListN.{length, getD}
 use Rattle.meaning.specs.Allocation.{ones}
-use Rattle.plans.specs.Plan.{There, servedOf}
+use Rattle.plans.specs.Plan.{There, servedOf, ownType}
+use Rattle.plans.specs.declared.Parent.{Parent}
 use Rattle.plans.specs.declared.Plan.{Plan}
-use Rattle.rules.specs.Fit.{Fit}
-use Rattle.unending.specs.Unending.{charged}
+use Rattle.rules.specs.Fit.{isWhole, Child, Fit}
+use Rattle.unending.specs.Unending.{charged, may}
 use Rattle.partitions.specs.Case.{
   Case,
   KeepsTypes,
@@ -28,6 +30,13 @@ abbrev pub Served : Type 0
 Served =
     (c : Case) → Fit (c .plan) → KeepsTypes c → OverFirstPart c → FromFresh c → IsPartition c → ItsWindow c → InsideRun c → DeclinesNowhere c →
     asked c ≤ received c
+
+-- 02, request 2: "A parent with C = T, supply or host, gives all slots": under a supply that keeps the types, whoever declines, a whole parent may give every
+-- slot to its children
+abbrev pub WholeGivesAll : Type 0
+WholeGivesAll =
+    (c : Case) → Fit (c .plan) → KeepsTypes c → (declines : ℕ → ℕ) (x : Parent) (i : ℕ) → Child (c .plan) x i → isWhole (ownType (c .plan) x) ≡ true →
+    (n : ℕ) → may (c .plan) (c .supply) declines x n ≡ true
 
 -- no partition is granted more than its served number in a served period, or in so much of one as lies inside the run, under any supply
 abbrev pub NeverServedMore : Type 0

@@ -1,5 +1,5 @@
 -- What specs/Needed.antt and specs/Whole.antt say holds: the checker computes the plans from their bytes, and each run. Assumes nothing.
-use Prim.Native.Nat.{ℕ, zero, suc, _+_, _*_, _%_, _≤_, _<_}
+use Prim.Native.Nat.{ℕ, zero, suc, _*_, _%_, _≤_, _<_}
 use mathlib.Core.Bool.{Bool, true, false, not, cond, true≢false}
 use mathlib.Core.List.{List, [], _∷_}
 use mathlib.Core.Path.{_≡_, refl, ap}
@@ -9,7 +9,7 @@ use lib.Dec.{ltb, eqb}
 use lib.ListN.{length, getD, replicate}
 use borrow.Author.Tests.{ltb-true, eqb-true, not-true}
 use Rattle.ticks.specs.Times.{inRange, isFit}
-use Rattle.meaning.specs.Allocation.{Allocation, ones}
+use Rattle.meaning.specs.Allocation.{ones}
 use Rattle.meaning.specs.Least.{lowest}
 use Rattle.meaning.specs.Types.{wellFormed}
 use Rattle.meaning.specs.Written.{written}
@@ -42,7 +42,6 @@ use Rattle.dispatch.specs.Reached.{Reached, at-start, by-run, by-step}
 use Rattle.unending.specs.Unending.{leftAt, slotAt, has, charged}
 use Rattle.partitions.specs.Case.{Case, slotsOf, KeepsTypes, OverFirstPart, FromFresh, ItsWindow, InsideRun, DeclinesNowhere, asked, receives, received}
 use Rattle.partitions.proofs.Kept.{one-run-too}
-use Rattle.guarantee.specs.Promises.{Accepted}
 use Rattle.guarantee.specs.Needed.{
   Basis,
   Meets,

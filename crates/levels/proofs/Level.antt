@@ -2,25 +2,8 @@
 -- honour its served type, aligned. Assumes nothing.
 use Prim.Native.Nat.{ℕ, zero, suc, _+_, _*_, _/_, _%_, _≤_, _<_}
 use mathlib.Core.Bool.{Bool, true, false, cond, _&&_}
-use mathlib.Core.Logic.{_⊎_, inl, inr}
 use mathlib.Core.Path.{_≡_, refl, sym, ap, _∙_}
-use native.Mathlib.Nat.{
-  mul-zero,
-  mul-add,
-  mul-assoc,
-  mul-comm,
-  mul-left-comm,
-  le-refl,
-  le-of-eq,
-  le-trans,
-  le-antisymm,
-  le-of-dvd,
-  le-of-mul-le-mul-left,
-  dvd-of-mod-eq-zero,
-  div-eq-of-eq-mul-left,
-  le-div-iff-mul-le,
-  mod-self,
-}
+use native.Mathlib.Nat.{mul-zero, mul-add, mul-assoc, mul-comm, mul-left-comm, le-refl, le-of-eq, le-trans, le-of-mul-le-mul-left, div-eq-of-eq-mul-left, le-div-iff-mul-le}
 use native.Mathlib.Decide.{decLe}
 use native.Mathlib.Omega.{arith}
 use Rattle.meaning.specs.Allocation.{Allocation, bit, ones}

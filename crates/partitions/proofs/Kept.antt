@@ -1,21 +1,21 @@
 -- What specs/Promises.antt says of demand 3, for a plan value that fits, holds. Assumes nothing.
-use Prim.Native.Nat.{ℕ, suc, _+_, _*_, _/_, _^_, _≤_, _<_}
-use mathlib.Core.Bool.{false, true}
-use mathlib.Core.List.{List, [], _++_, append-nil}
-use mathlib.Core.Path.{_≡_, refl, sym, ap, _∙_}
+use Prim.Native.Nat.{ℕ, _+_, _*_, _/_, _^_, _≤_, _<_}
+use mathlib.Core.Bool.{false}
+use mathlib.Core.List.{List}
+use mathlib.Core.Path.{_≡_, refl, sym, _∙_}
 use native.Mathlib.Nat.{zero-div}
 use native.Mathlib.Decide.{decLe}
 use native.Mathlib.Omega.{arith}
 use lib.ListN.{length, getD, take, drop, take-append-drop, List·getD-eq-default}
 use Rattle.meaning.specs.Allocation.{ones}
 use Rattle.owed.proofs.Ones.{ones-ext}
-use Rattle.plans.specs.Plan.{There, wantedOf, servedOf}
+use Rattle.plans.specs.Plan.{servedOf}
 use Rattle.plans.specs.declared.Plan.{Plan}
 use Rattle.plans.proofs.All.{left-true}
 use Rattle.rules.specs.Check.{isFit}
 use Rattle.rules.specs.Fit.{Fit}
 use Rattle.dispatch.specs.View.{bitOf, isLeaf, servedC, servedT}
-use Rattle.dispatch.specs.Run.{done, Standing, started, ready, ran, outAfter}
+use Rattle.dispatch.specs.Run.{done, started, ready, ran, outAfter}
 use Rattle.dispatch.specs.Reached.{at-start, by-run}
 use Rattle.dispatch.proofs.Refusals.{done-tests}
 use Rattle.unending.specs.Unending.{charged}

@@ -1,16 +1,15 @@
 -- Plans that kept rules 12 and 14 as document 01 has them keep them as they are now, and only whole parents made a difference. Assumes nothing.
-use Prim.Native.Nat.{ℕ, suc, _*_, _/_, _%_, _≤_}
+use Prim.Native.Nat.{ℕ, suc, _*_, _/_, _≤_}
 use mathlib.Core.Bool.{Bool, true, false, cond}
-use mathlib.Core.Path.{_≡_, refl, sym, ap, _∙_}
-use native.Mathlib.Nat.{le-refl, le-of-eq, le-trans, one-mul, div-one, mod-one, mul-div-le}
+use mathlib.Core.Path.{_≡_, refl, sym}
+use native.Mathlib.Nat.{le-refl, le-trans, one-mul, div-one, mod-one, mul-div-le}
 use native.Mathlib.Omega.{arith}
 use borrow.Author.Tests.{eqb-true}
 use Rattle.meaning.specs.declared.SlotType.{SlotType}
 use Rattle.plans.specs.Plan.{servedOf, ownType}
 use Rattle.plans.specs.declared.Parent.{Parent}
-use Rattle.plans.specs.declared.Plan.{Plan}
-use Rattle.rules.specs.Fit.{longest, load, loadTo, isWhole, owes, side, Child, Fit}
-use Rattle.rules.specs.Before.{Rule12Before, Rule14Before}
+use Rattle.rules.specs.Fit.{longest, load, loadTo, isWhole, owes, side, Child}
+use Rattle.rules.specs.Before.{Rule12Before}
 use Rattle.rules.specs.Promises.{StaysFit, OnlyWholeMoved}
 use Rattle.rules.proofs.Totals.{sum-grows}
 use Rattle.rules.proofs.KeptFit.{loads-by-child}

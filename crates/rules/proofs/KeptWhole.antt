@@ -1,10 +1,10 @@
 -- Where whole parents stand: what wants every slot is served every slot, and that under a whole parent, with nothing left for its siblings. Assumes nothing.
 use Prim.Native.Nat.{ℕ, zero, suc, _+_, _*_, _/_, _%_, _≤_, _<_}
-use mathlib.Core.Bool.{Bool, true, false, cond, true≢false}
-use mathlib.Core.Path.{_≡_, refl, sym, ap, _∙_}
+use mathlib.Core.Bool.{Bool, true, false, cond}
+use mathlib.Core.Path.{_≡_, refl}
 use lib.Dec.{eqb}
 use borrow.Author.Tests.{eqb-true, eqb-false, eq-eqb, ne-eqb}
-use native.Mathlib.Nat.{suc-mul, mul-zero, mul-comm, mul-one, le-refl, le-trans, mul-div-le, mul-le-mul-right, mul-le-mul-left, le-div-iff-mul-le}
+use native.Mathlib.Nat.{suc-mul, mul-zero, mul-comm, mul-one, le-refl, mul-div-le, mul-le-mul-right, mul-le-mul-left, le-div-iff-mul-le}
 use native.Mathlib.Omega.{arith}
 use Rattle.meaning.specs.declared.SlotType.{SlotType}
 use Rattle.meaning.proofs.WellFormed.{bounds}

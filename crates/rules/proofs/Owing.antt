@@ -1,13 +1,12 @@
 -- Whole parents as the code finds them: what they owe, and that rule 12 asks nothing of their children. Assumes nothing.
-use Prim.Native.Nat.{ℕ, _*_, _/_, _%_}
+use Prim.Native.Nat.{ℕ, _*_, _/_}
 use mathlib.Core.Bool.{Bool, true, false, not, _||_}
 use mathlib.Core.Path.{_≡_, refl, sym, ap, _∙_}
-use lib.Dec.{eqb}
 use Rattle.meaning.specs.declared.SlotType.{SlotType}
 use Rattle.answers.specs.Answers.{each}
 use Rattle.answers.specs.declared.Answer.the-variants.{Accepted}
 use Rattle.answers.proofs.Laws.{test-true, each-accepted}
-use Rattle.plans.specs.Plan.{servedOf, ownType, isChild}
+use Rattle.plans.specs.Plan.{ownType, isChild}
 use Rattle.plans.specs.declared.Parent.{Parent}
 use Rattle.plans.specs.declared.Plan.{Plan}
 use Rattle.rules.specs.Check.{twelveAt}

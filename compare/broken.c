@@ -22,11 +22,6 @@ static uint32_t node_at_depth(const struct draft *draft, uint32_t depth)
     return count > 0 ? found[chance_below(count)] : draft->node_count;
 }
 
-static struct drafted_type own_type(const struct draft *draft, uint8_t parent)
-{
-    return parent < 128 ? draft->supplies[parent] : draft->nodes[parent - 128].wanted;
-}
-
 /* Serves the node in another period, and has it want what that gives, so that rule 11 holds. */
 static void serve_in(struct drafted_node *node, uint32_t t)
 {
@@ -62,15 +57,10 @@ static int break_eleven(struct drafted_node *node)
     return 1;
 }
 
-static int is_whole(struct drafted_type own)
-{
-    return own.c == own.t;
-}
-
 static int break_twelve(const struct draft *draft, struct drafted_node *node)
 {
-    struct drafted_type own = own_type(draft, node->parent);
-    if (own.t == 1 || is_whole(own)) return 0;
+    struct drafted_type own = draft_own_type(draft, node->parent);
+    if (own.t == 1 || draft_is_whole(own)) return 0;
     uint32_t t = own.t * (uint32_t)chance_below(4) + 1 + (uint32_t)chance_below(own.t - 1u);
     if (t > 4096) return 0;
     serve_in(node, t);
@@ -80,7 +70,7 @@ static int break_twelve(const struct draft *draft, struct drafted_node *node)
 /* Two children with periods of twice and three times the parent's. */
 static int break_thirteen(struct draft *draft, uint32_t i)
 {
-    uint32_t own = own_type(draft, draft->nodes[i].parent).t, siblings[64], count = 0;
+    uint32_t own = draft_own_type(draft, draft->nodes[i].parent).t, siblings[64], count = 0;
     for (uint32_t k = 0; k < draft->node_count; k++) {
         if (k != i && draft->nodes[k].parent == draft->nodes[i].parent) siblings[count++] = k;
     }
@@ -90,19 +80,26 @@ static int break_thirteen(struct draft *draft, uint32_t i)
     return 1;
 }
 
+/* The longest served period among the parent's children. */
+static uint32_t longest_period(const struct draft *draft, uint8_t parent)
+{
+    uint32_t longest = 0;
+    for (uint32_t k = 0; k < draft->node_count; k++) {
+        if (draft->nodes[k].parent == parent && draft->nodes[k].served.t > longest) longest = draft->nodes[k].served.t;
+    }
+    return longest;
+}
+
 /* Serves a node all that its parent can still owe, and so many slots more. */
 static int serve_to_the_edge(struct draft *draft, uint32_t i, uint32_t more)
 {
     struct drafted_node *node = &draft->nodes[i];
-    struct drafted_type own = own_type(draft, node->parent);
-    uint32_t longest = 0, sum = 0;
-    for (uint32_t k = 0; k < draft->node_count; k++) {
-        if (draft->nodes[k].parent == node->parent && draft->nodes[k].served.t > longest) longest = draft->nodes[k].served.t;
-    }
+    struct drafted_type own = draft_own_type(draft, node->parent);
+    uint32_t longest = longest_period(draft, node->parent), sum = 0;
     for (uint32_t k = 0; k < draft->node_count; k++) {
         if (draft->nodes[k].parent == node->parent) sum += draft->nodes[k].served.c * (longest / draft->nodes[k].served.t);
     }
-    uint32_t side = is_whole(own) ? longest : own.c * (longest / own.t);
+    uint32_t side = draft_is_whole(own) ? longest : own.c * (longest / own.t);
     uint32_t free = side - sum, each = longest / node->served.t, c = node->served.c + free / each + more;
     if (c > node->served.t || (more == 0 && free % each != 0)) return 0;
     node->served.c = (uint16_t)c;
@@ -126,4 +123,65 @@ int draft_break(struct draft *draft, uint32_t number, uint32_t depth)
     case 13: return break_thirteen(draft, i);
     default: return serve_to_the_edge(draft, i, 1);
     }
+}
+
+/* ---- whole parents and empty ones */
+
+static void set_own_c(struct draft *draft, uint8_t parent, uint32_t c)
+{
+    if (parent < 128) draft->supplies[parent].c = (uint16_t)c;
+    else draft->nodes[parent - 128].wanted.c = (uint16_t)c;
+}
+
+static int is_child_of_a(const struct draft *draft, uint32_t i, int host)
+{
+    return (draft->nodes[i].parent >= 128) == (host != 0);
+}
+
+static uint32_t lowest_odd_child(const struct draft *draft, uint8_t parent)
+{
+    for (uint32_t k = 0; k < draft->node_count; k++) {
+        if (draft->nodes[k].parent == parent && draft_is_odd(draft, k)) return k;
+    }
+    return NO_NODE;
+}
+
+uint32_t draft_shorten(struct draft *draft, int at_host)
+{
+    uint32_t found[64], count = 0;
+    for (uint32_t i = 0; i < draft->node_count; i++) {
+        if (is_child_of_a(draft, i, at_host) && draft_is_odd(draft, i)) found[count++] = i;
+    }
+    if (count == 0) return NO_NODE;
+    uint8_t parent = draft->nodes[found[chance_below(count)]].parent;
+    set_own_c(draft, parent, draft_own_type(draft, parent).t - 1u);
+    return lowest_odd_child(draft, parent);
+}
+
+/* One more of the longest period makes the sum pass by one, and that at the last child that is served anything. */
+uint32_t draft_overfill(struct draft *draft, int at_host)
+{
+    uint32_t i = (uint32_t)chance_below(draft->node_count), last = i;
+    uint8_t parent = draft->nodes[i].parent;
+    if (!is_child_of_a(draft, i, at_host) || !draft_is_whole(draft_own_type(draft, parent))) return NO_NODE;
+    if (draft->nodes[i].served.t < longest_period(draft, parent) || !serve_to_the_edge(draft, i, 1)) return NO_NODE;
+    for (uint32_t k = i; k < draft->node_count; k++) {
+        if (draft->nodes[k].parent == parent && draft->nodes[k].served.c > 0) last = k;
+    }
+    return last;
+}
+
+uint32_t draft_empty(struct draft *draft, int at_host, uint32_t number)
+{
+    uint32_t i = (uint32_t)chance_below(draft->node_count);
+    uint8_t parent = draft->nodes[i].parent;
+    if (!is_child_of_a(draft, i, at_host) || draft->nodes[i].served.c == 0) return NO_NODE;
+    uint32_t odd = lowest_odd_child(draft, parent);
+    if ((odd == NO_NODE) != (number == 14)) return NO_NODE;
+    set_own_c(draft, parent, 0);
+    if (number == 12) return odd;
+    for (uint32_t k = 0; k < i; k++) {
+        if (draft->nodes[k].parent == parent && draft->nodes[k].served.c > 0) return k;
+    }
+    return i;
 }

@@ -13,6 +13,8 @@ enum { DOCUMENT_BYTES = 60 };
 extern const uint8_t plan_of_the_document[DOCUMENT_BYTES];
 /* A plan, and the names of nodes there and not there; answers what the read answers. */
 uint64_t check_file(const uint8_t *bytes, size_t len);
+/* Every cut of a plan, and every change of one of its bytes. */
+void check_every_change(const uint8_t *bytes, size_t len);
 /* of_values.c */
 void cases_of_values(uint64_t rounds);
 /* of_slots.c */
@@ -20,6 +22,8 @@ void cases_of_slots(uint64_t rounds);
 /* of_deep.c: plans that are served at every depth, as bytes, as values and in damage; of_turns.c: their slots */
 void cases_of_deep_plans(uint64_t rounds);
 void cases_of_turns(uint64_t rounds);
+/* of_whole.c: whole parents, and those that are nearly so */
+void cases_of_whole_parents(uint64_t rounds);
 /* of_times.c */
 void cases_of_times(uint64_t rounds);
 /* of_lengths.c: slices of wrong lengths, and of none */

@@ -11,6 +11,7 @@ enum { NODES = 64, CORES = 8, DEPTH = 8, HOST = 2 };
 /* Parents are given as in a parent byte, and come before their children. */
 struct tree {
     uint32_t cores, count, deepest;
+    int whole; /* whether it is to have whole cores and hosts */
     uint8_t parent[NODES], depth[NODES], kind[NODES];
     uint8_t is_end[NODES]; /* whether the node has no child */
     uint32_t ends[NODES];  /* how many nodes at or below it have none */
@@ -74,6 +75,7 @@ static void grow(struct tree *tree)
 {
     uint32_t most = chance(50) ? NODES : 1 + (uint32_t)chance_below(NODES), first;
     int alike = chance(40);
+    tree->whole = chance(25);
     tree->deepest = chance(20) ? DEPTH : 1 + (uint32_t)chance_below(DEPTH);
     tree->count = 0;
     tree->cores = 1 + (uint32_t)chance_below(chance(15) ? 2 : CORES);
@@ -92,7 +94,7 @@ static void grow(struct tree *tree)
 
 /* ---- what is served */
 
-/* The periods that a parent's children may have, each dividing the next, the first its own; and what it owes in the last of them. */
+/* The periods that a parent's children may have, each dividing the next; and what it owes in the last of them. */
 struct periods {
     uint16_t of[12];
     uint32_t count, room;
@@ -102,7 +104,8 @@ struct periods {
 static struct periods make_periods(struct drafted_type own, uint32_t ends)
 {
     static const uint16_t factors[] = {2, 2, 2, 3, 3, 4, 5, 7};
-    struct periods periods = {{own.t}, 1, own.c};
+    struct periods periods = {{draft_first_period(own)}, 1, own.c};
+    if (draft_is_whole(own)) periods.room = periods.of[0];
     while (periods.count < 12) {
         uint32_t last = periods.of[periods.count - 1], factor = factors[chance_below(8)];
         int needed = own.c > 0 && periods.room < ends;
@@ -124,10 +127,15 @@ static struct drafted_type take_type(const struct periods *periods, uint32_t sha
     return (struct drafted_type){(uint16_t)(share / each), t};
 }
 
-/* What a host wants of its served type: often just that, or some of its periods at once, or less, or another period that leaves it something. */
+/* What a host wants of its served type: often just that, or some of its periods at once, or less, or another period that leaves it something; where it is
+ * served all slots, all of them in any period. */
 static struct drafted_type host_wants(struct drafted_type served)
 {
     uint32_t many = 2 + (uint32_t)chance_below(3);
+    if (draft_is_whole(served) && chance(40)) {
+        uint16_t t = (uint16_t)(1 + chance_below(12));
+        return (struct drafted_type){t, t};
+    }
     switch (chance_below(8)) {
     case 0:
         if (served.t * many <= 4096) return (struct drafted_type){(uint16_t)(served.c * many), (uint16_t)(served.t * many)};
@@ -154,10 +162,21 @@ static uint32_t take_share(uint32_t left, uint32_t ends, uint32_t ends_after, in
     return ends + (is_end ? more / 8 : chance(85) ? most - ends - more / 8 : more);
 }
 
-/* Serves the parent's children, none of them more than is left, all of them something where there is enough. */
+/* The one child to which a whole parent leaves all that it has: a host, and then whole itself. NODES where there is none. */
+static uint32_t take_heir(const struct tree *tree, uint8_t parent, struct drafted_type own)
+{
+    uint32_t hosts[NODES], count = 0;
+    if (!draft_is_whole(own) || !chance(tree->whole ? 80 : 5)) return NODES;
+    for (uint32_t i = 0; i < tree->count; i++) {
+        if (tree->parent[i] == parent && tree->kind[i] == HOST && !tree->is_end[i]) hosts[count++] = i;
+    }
+    return count > 0 ? hosts[chance_below(count)] : NODES;
+}
+
+/* Serves the parent's children, none of them more than is left, all of them something where there is enough and no heir. */
 static void serve_children(struct draft *draft, const struct tree *tree, uint8_t parent, struct drafted_type own)
 {
-    uint32_t ends = 0, left;
+    uint32_t ends = 0, heir = take_heir(tree, parent, own), left;
     for (uint32_t i = 0; i < tree->count; i++) ends += tree->parent[i] == parent ? tree->ends[i] : 0;
     if (ends == 0) return;
     struct periods periods = make_periods(own, ends);
@@ -167,17 +186,18 @@ static void serve_children(struct draft *draft, const struct tree *tree, uint8_t
         if (tree->parent[i] != parent) continue;
         ends -= tree->ends[i];
         uint32_t share = take_share(left, tree->ends[i], ends, tree->is_end[i]);
+        if (heir < NODES) share = i == heir ? left : 0;
         left -= share;
         node->served = take_type(&periods, share);
         node->wanted = tree->kind[i] == HOST ? host_wants(node->served) : draft_wanted(node->served, tree->kind[i]);
     }
 }
 
-static struct drafted_type deep_supply(void)
+static struct drafted_type deep_supply(int whole)
 {
     static const uint16_t periods[] = {1, 1, 2, 3, 4, 5, 6, 8, 10, 12, 16, 20, 24, 32, 60, 100};
     uint16_t t = periods[chance_below(16)];
-    return (struct drafted_type){chance(50) ? t : (uint16_t)(t - chance_below(t < 3 ? t : t / 2 + 1)), t};
+    return (struct drafted_type){chance(whole ? 90 : 50) ? t : (uint16_t)(t - chance_below(t < 3 ? t : t / 2 + 1)), t};
 }
 
 /* ---- the order of the nodes */
@@ -212,7 +232,7 @@ void draft_deep(struct draft *draft)
     draft->supply_count = (uint8_t)tree.cores;
     draft->node_count = (uint8_t)tree.count;
     for (uint8_t i = 0; i < draft->supply_count; i++) {
-        draft->supplies[i] = deep_supply();
+        draft->supplies[i] = deep_supply(tree.whole);
         serve_children(draft, &tree, i, draft->supplies[i]);
     }
     for (uint8_t i = 0; i < draft->node_count; i++) {

@@ -42,8 +42,29 @@ static uint16_t one_of(const uint16_t *numbers, size_t count)
 
 /* ---- sound plans */
 
-/* What the children of a parent may still take. Their periods come from a chain in which each divides the next, the first being the parent's own T; room is
- * counted in slots of the last. */
+struct drafted_type draft_own_type(const struct draft *draft, uint8_t parent)
+{
+    return parent < 128 ? draft->supplies[parent] : draft->nodes[parent - 128].wanted;
+}
+
+int draft_is_whole(struct drafted_type own)
+{
+    return own.c == own.t;
+}
+
+int draft_is_odd(const struct draft *draft, uint32_t i)
+{
+    return draft->nodes[i].served.t % draft_own_type(draft, draft->nodes[i].parent).t != 0;
+}
+
+/* The parent's own T, or half the time any period where it is whole. */
+uint16_t draft_first_period(struct drafted_type own)
+{
+    if (!draft_is_whole(own) || chance(50)) return own.t;
+    return (uint16_t)(1 + chance_below(own.t < 30 ? 2u * own.t + 3 : own.t));
+}
+
+/* What the children of a parent may still take. Their periods come from a chain in which each divides the next; room is counted in slots of the last. */
 struct parent {
     uint8_t byte;
     uint8_t depth; /* of its children */
@@ -55,13 +76,14 @@ struct parent {
 static struct parent make_parent(uint8_t byte, uint8_t depth, struct drafted_type own)
 {
     static const uint16_t factors[] = {1, 2, 2, 3, 4, 5, 7};
-    struct parent parent = {byte, depth, {own.t}, 1, 0};
+    struct parent parent = {byte, depth, {draft_first_period(own)}, 1, 0};
     while (parent.period_count < 6 && chance(70)) {
         uint32_t period = (uint32_t)parent.periods[parent.period_count - 1] * ONE_OF(factors);
         if (period > 4096) break;
         parent.periods[parent.period_count++] = (uint16_t)period;
     }
-    parent.room = (uint32_t)own.c * (parent.periods[parent.period_count - 1] / own.t);
+    uint32_t last = parent.periods[parent.period_count - 1];
+    parent.room = draft_is_whole(own) ? last : own.c * (last / own.t);
     return parent;
 }
 
@@ -243,11 +265,18 @@ static void serve_more(struct drafted_node *node)
     node->served.c = more > node->served.t ? node->served.t : (uint16_t)more;
 }
 
+/* Makes a supply, or what the node wants, whole or one slot short of it. */
+static void change_wholeness(struct draft *draft, struct drafted_node *node)
+{
+    struct drafted_type *own = chance(50) ? &draft->supplies[chance_below(draft->supply_count)] : &node->wanted;
+    own->c = (uint16_t)(own->t - chance_below(2));
+}
+
 void draft_damage(struct draft *draft)
 {
     uint32_t i = (uint32_t)chance_below(draft->node_count), other = (uint32_t)chance_below(draft->node_count);
     struct drafted_node *node = &draft->nodes[i];
-    switch (chance_below(14)) {
+    switch (chance_below(15)) {
     case 0: damage_tick(draft); break;
     case 1: damage_type(&draft->supplies[chance_below(draft->supply_count)]); break;
     case 2: node->kind = (uint8_t)chance_below(chance(80) ? 4 : 256); break;
@@ -264,6 +293,7 @@ void draft_damage(struct draft *draft)
         memcpy(node->name, draft->nodes[other].name, 32);
         break;
     case 12: hang_in_a_chain(draft, i); break;
+    case 13: change_wholeness(draft, node); break;
     default: node->name[chance_below(node->name_length)] = (uint8_t)(chance(50) ? 32 : 127); break;
     }
 }

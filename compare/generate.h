@@ -33,12 +33,20 @@ struct draft {
     struct drafted_node nodes[64];
 };
 
+/* The type of a parent, given as in a parent byte: the supply's, or what the host wants. */
+struct drafted_type draft_own_type(const struct draft *draft, uint8_t parent);
+
+/* Whether a parent of this type gives all slots. Only its children may have an odd period, which is one that is no multiple of the parent's. */
+int draft_is_whole(struct drafted_type own);
+int draft_is_odd(const struct draft *draft, uint32_t i);
+
 /* A plan with at most so many nodes that breaks no rule. */
 void draft_sound(struct draft *draft, uint32_t most_nodes);
 
-/* Parts of a plan: a P or a Q; what a node of this kind may want of its served type; the most that a wanted type of period t may ask of it; and for node i a
- * name of its own, sometimes one that differs little from an earlier one. */
+/* Parts of a plan: a P or a Q; the shortest period among the children of such a parent; what a node of this kind may want of its served type; the most that a
+ * wanted type of period t may ask of it; and for node i a name of its own, sometimes one that differs little from an earlier one. */
 uint32_t draft_tick(void);
+uint16_t draft_first_period(struct drafted_type own);
 struct drafted_type draft_wanted(struct drafted_type served, uint8_t kind);
 uint16_t draft_most_wanted(struct drafted_type served, uint8_t kind, uint16_t t);
 void draft_name(struct draft *draft, uint32_t i);

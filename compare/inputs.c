@@ -119,3 +119,32 @@ void inputs_by_chance(struct inputs *inputs, const uint32_t *plan, size_t slots)
         inputs->declines[k] |= bits_of(idle_bits) & ~leaves;
     }
 }
+
+/* Supplies a core in at least C slots of each of its periods; where it is sparing, in no more. */
+static void supply_in_keeping(struct inputs *inputs, uint32_t core, uint32_t c, uint32_t t)
+{
+    enum density density = supply_density();
+    int sparing = chance(50);
+    uint32_t owed = c;
+    for (size_t k = 0; k < inputs->slots + 8; k++) {
+        if (k % t == 0) {
+            owed = c;
+            if (chance(10)) density = supply_density();
+            if (chance(10)) sparing = chance(50);
+        }
+        int must = owed == t - k % t, may = owed > 0 || !sparing;
+        int supplied = must || (may && (bits_of(density) & 1) == 1);
+        inputs->supplies[k] = (uint8_t)((inputs->supplies[k] & ~(1u << core)) | (uint32_t)supplied << core);
+        if (supplied && owed > 0) owed--;
+    }
+}
+
+void inputs_in_keeping(struct inputs *inputs, const uint32_t *plan, size_t slots)
+{
+    uint64_t never = bits_of((enum density)chance_below(5));
+    inputs_by_chance(inputs, plan, slots);
+    for (size_t k = 0; k < slots + 8; k++) inputs->declines[k] &= ~never;
+    for (uint32_t core = 0; core < plan[AT_SUPPLY_COUNT]; core++) {
+        supply_in_keeping(inputs, core, plan[AT_SUPPLIES + 2 * core], plan[AT_SUPPLIES + 2 * core + 1]);
+    }
+}

@@ -36,4 +36,8 @@ struct inputs {
  * supply or no leaf of the plan are clear, set or set by chance. */
 void inputs_by_chance(struct inputs *inputs, const uint32_t *plan, size_t slots);
 
+/* The same for a run from the first slot on, with every core supplied as its type says, early, late or by chance in each of its periods, and some of the leaves
+ * never declining. */
+void inputs_in_keeping(struct inputs *inputs, const uint32_t *plan, size_t slots);
+
 #endif

@@ -81,7 +81,7 @@ static void deepest_files(void)
     }
 }
 
-static void every_cut_and_every_byte(const uint8_t *bytes, size_t len)
+void check_every_change(const uint8_t *bytes, size_t len)
 {
     uint8_t changed[MOST_BYTES];
     uint32_t plan[METTULOS_PLAN];
@@ -104,10 +104,10 @@ static void files_changed_everywhere(uint64_t plans)
     uint8_t bytes[MOST_BYTES];
     struct draft draft;
     seen_kind("every cut and every single-byte change of a plan");
-    every_cut_and_every_byte(plan_of_the_document, sizeof plan_of_the_document);
+    check_every_change(plan_of_the_document, sizeof plan_of_the_document);
     for (uint64_t i = 0; i < plans; i++) {
         draft_sound(&draft, 5);
-        every_cut_and_every_byte(bytes, draft_bytes(&draft, bytes));
+        check_every_change(bytes, draft_bytes(&draft, bytes));
     }
 }
 

@@ -3,6 +3,7 @@
 #include "check.h"
 #include "generate.h"
 #include "inputs.h"
+#include "promised.h"
 #include "seen.h"
 
 #include "../include/mettulos.h"
@@ -26,8 +27,11 @@ static void runs(uint64_t rounds)
         sound_value(plan, chance(80) ? 12 : 64);
         check_fresh(plan, METTULOS_PLAN, state, METTULOS_STATE);
         for (uint64_t k = 0; k <= chance_below(4); k++) {
-            inputs_by_chance(&inputs, plan, chance_below(chance(90) ? 100 : 601));
-            if (run(plan, state, &inputs, inputs.slots * plan[2] + chance_below(3)) != 0) check_fail("a run that should go through is refused");
+            size_t slots = chance_below(chance(90) ? 100 : 601);
+            if (k == 0 && chance(70)) inputs_in_keeping(&inputs, plan, slots);
+            else inputs_by_chance(&inputs, plan, slots);
+            if (run(plan, state, &inputs, slots * plan[2] + chance_below(3)) != 0) check_fail("a run that should go through is refused");
+            if (k == 0) promised(&(struct given){plan, slots, inputs.supplies, inputs.declines, answers});
         }
     }
     seen_kind("runs from odd states");

@@ -3,6 +3,7 @@
 #include "check.h"
 #include "deep.h"
 #include "inputs.h"
+#include "promised.h"
 #include "seen.h"
 
 #include "../include/mettulos.h"
@@ -64,7 +65,15 @@ static size_t slots_of_round(uint64_t round)
     return 1000 + chance_below(chance(20) ? MOST_SLOTS - 999 : 1000);
 }
 
-/* Runs and steps in turn, and one run over all their slots: the same answers and the same state. */
+/* Whether nothing has been given out before. */
+static int is_fresh(const uint64_t *state)
+{
+    int full = 1;
+    for (uint32_t i = 0; i < plan[19]; i++) full = full && state[1 + i] == plan[20 + 6 * i + 4];
+    return full && state[0] == 0;
+}
+
+/* Runs and steps in turn, and one run over all their slots: the same answers and the same state. From a fresh start the answers are as promised. */
 static void turns(uint64_t rounds)
 {
     uint64_t by_turns[METTULOS_STATE], by_run[METTULOS_STATE];
@@ -73,12 +82,15 @@ static void turns(uint64_t rounds)
         size_t slots = slots_of_round(round);
         deep_plan(by_turns, slots);
         memcpy(by_run, by_turns, sizeof by_run);
-        inputs_by_chance(&inputs, plan, slots);
+        int fresh = is_fresh(by_turns);
+        if (fresh && chance(70)) inputs_in_keeping(&inputs, plan, slots);
+        else inputs_by_chance(&inputs, plan, slots);
         go_in_turns(by_turns);
         if (run(by_run, 0, slots, whole, slots * plan[2] + chance_below(3)) != 0) check_fail("a run that should go through is refused");
         check_bytes("the state after a run is not the state after its pieces", by_run, by_turns, sizeof by_run);
         check_bytes("the answers of a run are not those of its pieces", whole, in_pieces, slots * plan[2]);
         seen(PIECES_AS_A_WHOLE);
+        if (fresh) promised(&(struct given){plan, slots, inputs.supplies, inputs.declines, whole});
     }
 }
 

@@ -159,6 +159,9 @@ static void want_calls(void)
 enum { AT_SUPPLIES = 3, AT_NODE_COUNT = 19, AT_NODES = 20, HOST = 2, IDLE = 254, NOT_SUPPLIED = 255, LONG_RUN = 1000 };
 
 static uint64_t plans_by_cores[9], plans_by_depth[9], plans_of_64;
+static uint64_t plans_odd[2];      /* with a child of an odd period under a supply, and under a host */
+static uint64_t plans_whole[9];    /* with a whole host that has children, by its depth */
+static uint64_t plans_whole_beside; /* with one that has siblings too */
 static uint64_t broken[4][9];
 static uint64_t things[THINGS];
 
@@ -167,18 +170,39 @@ static const uint32_t *node_of(const uint32_t *plan, uint32_t i)
     return plan + AT_NODES + 6 * i;
 }
 
-/* The depth of each node of an accepted plan, and the supply that it hangs under. */
+/* Of each node of an accepted plan the depth, the supply that it hangs under, whether its served period is odd, which is no multiple of its parent's, and
+ * whether that of a host above it is. */
 struct places {
-    uint8_t depth[64], supply[64];
+    uint8_t depth[64], supply[64], odd[64], below_odd[64];
 };
 
 static void find_places(const uint32_t *plan, struct places *places)
 {
     for (uint32_t i = 0; i < plan[AT_NODE_COUNT]; i++) {
-        uint32_t parent = node_of(plan, i)[1];
-        places->depth[i] = parent < 128 ? 1 : (uint8_t)(places->depth[parent - 128] + 1);
-        places->supply[i] = parent < 128 ? (uint8_t)parent : places->supply[parent - 128];
+        uint32_t parent = node_of(plan, i)[1], host = parent - 128;
+        int hosted = parent >= 128;
+        places->depth[i] = hosted ? (uint8_t)(places->depth[host] + 1) : 1;
+        places->supply[i] = hosted ? places->supply[host] : (uint8_t)parent;
+        places->odd[i] = node_of(plan, i)[5] % (hosted ? node_of(plan, host)[3] : plan[AT_SUPPLIES + 2 * parent + 1]) != 0;
+        places->below_odd[i] = hosted && (places->odd[host] || places->below_odd[host]);
     }
+}
+
+/* The plan's whole hosts that have children, and its children of odd periods. */
+static void see_whole(const uint32_t *plan, const struct places *places)
+{
+    uint32_t children[256] = {0}, depths = 0, odd = 0, beside = 0; /* depths and odd as bits */
+    for (uint32_t i = 0; i < plan[AT_NODE_COUNT]; i++) children[node_of(plan, i)[1]]++;
+    for (uint32_t i = 0; i < plan[AT_NODE_COUNT]; i++) {
+        const uint32_t *node = node_of(plan, i);
+        if (places->odd[i]) odd |= BIT(node[1] >= 128);
+        if (node[0] != HOST || node[2] != node[3] || children[128 + i] == 0) continue;
+        depths |= BIT(places->depth[i]);
+        beside |= children[node[1]] > 1;
+    }
+    for (uint32_t depth = 1; depth <= 7; depth++) plans_whole[depth] += depths >> depth & 1;
+    for (uint32_t k = 0; k < 2; k++) plans_odd[k] += odd >> k & 1;
+    plans_whole_beside += beside;
 }
 
 void seen_plan(const uint32_t *plan)
@@ -192,6 +216,7 @@ void seen_plan(const uint32_t *plan)
     plans_by_cores[plan[2]]++;
     plans_by_depth[deepest]++;
     plans_of_64 += plan[AT_NODE_COUNT] == 64;
+    see_whole(plan, &places);
 }
 
 void seen_broken(uint32_t rule, uint32_t depth)
@@ -210,6 +235,8 @@ static uint64_t slots_given, slots_past_half, long_runs, odd_counts_kept;
 static uint64_t granted[9][9];      /* by the number of cores and the depth of the leaf */
 static uint64_t granting[9][9];     /* the calls with such a grant */
 static uint64_t granted_kind[2][9]; /* by the kind of the leaf and its depth */
+static uint64_t granted_odd[9];     /* to a leaf of an odd period, or below a host of one, by the leaf's depth */
+static uint64_t granting_odd[9];    /* the calls with a grant to a leaf of an odd period, by its depth */
 static uint64_t granted_core[8], granted_leaf[64], granted_scarce[2];
 static uint64_t idle_core[8], missing_core[8];
 static uint64_t idle_below[9]; /* by the depth of the last host that was charged, 0 where none was */
@@ -218,7 +245,7 @@ static uint64_t idle_without_children;
 /* The answers of some slots, and what stands past the last node. */
 static void see_answers(const uint32_t *plan, const struct places *places, const uint64_t *before, size_t slots, const uint8_t *out)
 {
-    uint32_t cores = plan[2], depths = 0; /* bit d where depth d was granted */
+    uint32_t cores = plan[2], depths = 0, odd = 0; /* bit d where depth d was granted */
     for (size_t k = 0; k < slots * cores; k++) {
         uint32_t core = (uint32_t)(k % cores), leaf = out[k];
         if (leaf == IDLE) idle_core[core]++;
@@ -227,12 +254,17 @@ static void see_answers(const uint32_t *plan, const struct places *places, const
             depths |= BIT(places->depth[leaf]);
             granted[cores][places->depth[leaf]]++;
             granted_kind[node_of(plan, leaf)[0] & 1][places->depth[leaf]]++;
+            granted_odd[places->depth[leaf]] += places->odd[leaf] || places->below_odd[leaf];
+            if (places->odd[leaf]) odd |= BIT(places->depth[leaf]);
             granted_core[core]++;
             granted_leaf[leaf]++;
             granted_scarce[plan[AT_SUPPLIES + 2 * core] < plan[AT_SUPPLIES + 2 * core + 1]]++;
         }
     }
-    for (uint32_t depth = 1; depth <= 8; depth++) granting[cores][depth] += depths >> depth & 1;
+    for (uint32_t depth = 1; depth <= 8; depth++) {
+        granting[cores][depth] += depths >> depth & 1;
+        granting_odd[depth] += odd >> depth & 1;
+    }
     slots_given += slots;
     if (before[0] >= (uint64_t)1 << 39) slots_past_half += slots;
     for (uint32_t i = plan[AT_NODE_COUNT]; i < 64; i++) {
@@ -284,6 +316,18 @@ void seen_step(const uint32_t *plan, const uint64_t *before, const uint64_t *aft
     }
 }
 
+/* By the kind of the leaf; in the second row those of odd periods, and those below hosts of odd periods. */
+static uint64_t windows_held[2][2], windows_just[2][2];
+
+void seen_windows(const uint32_t *plan, uint32_t leaf, uint64_t windows, uint64_t just)
+{
+    struct places places;
+    find_places(plan, &places);
+    uint32_t odd = places.odd[leaf] || places.below_odd[leaf], kind = node_of(plan, leaf)[0];
+    windows_held[odd][kind] += windows;
+    windows_just[odd][kind] += just;
+}
+
 /* ---- the report */
 
 static void report_plans(void)
@@ -292,10 +336,16 @@ static void report_plans(void)
     print_row("accepted plans by cores", plans_by_cores, 1, 8);
     print_row("accepted plans by depth", plans_by_depth, 1, 8);
     printf("accepted plans of 64 nodes: %" PRIu64 "\n", plans_of_64);
+    print_row("accepted plans with an odd period under a whole supply (0) or host (1)", plans_odd, 0, 1);
+    print_row("accepted plans with a whole host that has children by its depth", plans_whole, 1, 7);
+    printf("accepted plans with a whole host that has children and siblings: %" PRIu64 "\n", plans_whole_beside);
     for (int rule = 0; rule < 4; rule++) print_row(names[rule], broken[rule], 1, 8);
     want_row("an accepted plan with cores", plans_by_cores, 1, 8, ENOUGH);
     want_row("an accepted plan of depth", plans_by_depth, 1, 8, ENOUGH);
     want("an accepted plan of 64 nodes", "", plans_of_64, ENOUGH);
+    want_row("an accepted plan with an odd period under a whole supply (0) or host (1):", plans_odd, 0, 1, ENOUGH);
+    want_row("an accepted plan with a whole host that has children, of depth", plans_whole, 1, 7, ENOUGH_OF_A_PART);
+    want("an accepted plan with a whole host that has children and siblings", "", plans_whole_beside, ENOUGH);
     for (int rule = 0; rule < 4; rule++) want_row(names[rule], broken[rule], 1, 8, ENOUGH_OF_A_PART);
 }
 
@@ -312,11 +362,15 @@ static void report_grants(void)
     }
     print_row("grants to aligned leaves by depth", granted_kind[0], 1, 8);
     print_row("grants to sliding leaves by depth", granted_kind[1], 1, 8);
+    print_row("grants to leaves of odd periods, or below hosts of such, by depth", granted_odd, 1, 8);
+    print_row("calls that grant to leaves of odd periods by depth", granting_odd, 1, 8);
     print_row("grants by core", granted_core, 0, 7);
     print_row("grants by leaf", granted_leaf, 0, 63);
     print_row("grants where the supply is whole (0) or has C < T (1)", granted_scarce, 0, 1);
     want_row("a grant to an aligned leaf of depth", granted_kind[0], 1, 8, ENOUGH);
     want_row("a grant to a sliding leaf of depth", granted_kind[1], 1, 8, ENOUGH);
+    want_row("a grant to a leaf of an odd period, or below a host of one, of depth", granted_odd, 1, 8, ENOUGH);
+    want_row("a call that grants to a leaf of an odd period of depth", granting_odd, 1, 8, ENOUGH_OF_A_PART);
     want_row("a grant of core", granted_core, 0, 7, ENOUGH);
     want_row("a grant to leaf", granted_leaf, 0, 63, ENOUGH);
     want_row("a grant where the supply is whole (0) or has C < T (1):", granted_scarce, 0, 1, ENOUGH);
@@ -334,12 +388,28 @@ static void report_idle(void)
     want("an idle step below a host without children", "", idle_without_children, ENOUGH);
 }
 
+static void report_windows(void)
+{
+    static const char *const held[] = {"windows held to what an aligned (0) or sliding (1) leaf wants", "the same at or below odd periods"};
+    static const char *const just[] = {"windows with just what an aligned (0) or sliding (1) leaf wants", "the same at or below odd periods"};
+    for (int odd = 0; odd < 2; odd++) print_row(held[odd], windows_held[odd], 0, 1);
+    for (int odd = 0; odd < 2; odd++) print_row(just[odd], windows_just[odd], 0, 1);
+    want_row("a window of an aligned (0) or sliding (1) leaf at or below an odd period:", windows_held[1], 0, 1, ENOUGH);
+    want_row("a window with just what an aligned (0) or sliding (1) leaf wants:", windows_just[0], 0, 1, ENOUGH);
+    want_row("a window with just what an aligned (0) or sliding (1) leaf at or below an odd period wants:", windows_just[1], 0, 1, ENOUGH);
+}
+
 static void report_things(void)
 {
     static const char *const names[THINGS] = {
         "a plan value with odd unused entries, accepted", "a plan value refused for a number beyond its field in an unused entry",
         "a run that goes on from a step",                 "a step that goes on from a run",
-        "runs and steps in turn that gave what one run gives", "a sum that just meets the parent's side, accepted"};
+        "runs and steps in turn that gave what one run gives", "a sum that just meets the parent's side, accepted",
+        "a supply one slot short of whole, with a child of an odd period, refused by 12",
+        "a host one slot short of whole, but served whole, with a child of an odd period, refused by 12",
+        "a whole supply overfull by one, refused by 14",  "a whole host overfull by one, refused by 14",
+        "a parent of no slots with a child of an odd period, refused by 12",
+        "a parent of no slots with a child that is served some, refused by 14"};
     printf("slots: %" PRIu64 ", at 2^39 or later %" PRIu64 "; runs of %d slots or more: %" PRIu64 "\n", slots_given, slots_past_half, LONG_RUN, long_runs);
     printf("runs and steps with counts past the last node: %" PRIu64 "\n", odd_counts_kept);
     want("a slot at 2^39 or later", "", slots_past_half, ENOUGH);
@@ -359,6 +429,7 @@ int seen_report(uint64_t rounds)
     report_plans();
     report_grants();
     report_idle();
+    report_windows();
     report_things();
     want_calls();
     return too_seldom;

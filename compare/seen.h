@@ -29,6 +29,9 @@ void seen_plan(const uint32_t *plan);
 void seen_step(const uint32_t *plan, const uint64_t *before, const uint64_t *after, const uint8_t *grants);
 void seen_run(const uint32_t *plan, const uint64_t *before, size_t slots, const uint8_t *out);
 
+/* A leaf, among the slots that were given out from a fresh start: how many of its windows were held to what it wants, and how many of them had just that. */
+void seen_windows(const uint32_t *plan, uint32_t leaf, uint64_t windows, uint64_t just);
+
 /* A plan that one of the rules 11 to 14 refused at a node of this depth. */
 void seen_broken(uint32_t rule, uint32_t depth);
 
@@ -40,6 +43,12 @@ enum thing {
     STEP_AFTER_RUN,        /* and the other way round */
     PIECES_AS_A_WHOLE,     /* runs and steps in turn that gave what one run over all their slots gives */
     RIGHT_AT_THE_ROOM,     /* a rule 14 sum that just meets the parent's side, accepted */
+    SUPPLY_SHORT_OF_WHOLE, /* a supply with C = T - 1 whose child has an odd period, refused by 12 */
+    HOST_SHORT_OF_WHOLE,   /* and a host that wants so much and is served all slots */
+    SUPPLY_OVERFULL,       /* a whole supply whose children are served one slot too many, refused by 14 */
+    HOST_OVERFULL,         /* and a whole host */
+    EMPTY_AND_ODD,         /* a parent of (0,T) whose child has an odd period, refused by 12 */
+    EMPTY_AND_SERVING,     /* and one whose child is served something, refused by 14 */
     THINGS
 };
 void seen(enum thing thing);

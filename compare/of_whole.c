@@ -1,0 +1,261 @@
+/* Parents that give all slots (document 02, request 2), and those that nearly do. */
+#include "cases.h"
+#include "check.h"
+#include "deep.h"
+#include "inputs.h"
+#include "promised.h"
+#include "seen.h"
+
+#include "../include/mettulos.h"
+
+#include <string.h>
+
+static struct inputs inputs;
+static uint8_t bytes[MOST_BYTES], answers[8 * MOST_SLOTS];
+static uint32_t plan[METTULOS_PLAN];
+
+/* ---- plans as files and as values */
+
+/* The plan is refused so, or not at all where the number is 0; as a value it is fit or not, accordingly. */
+static void expect(const struct draft *draft, uint32_t number, uint32_t place)
+{
+    uint64_t state[METTULOS_STATE];
+    uint64_t refused = check_read(bytes, draft_bytes(draft, bytes), plan, METTULOS_PLAN);
+    if (METTULOS_NUMBER(refused) != number) check_fail("a plan with a parent that is whole, or nearly so, is not answered by the number that it should be");
+    if (number > 0 && METTULOS_PLACE(refused) != place) check_fail("a plan with a parent that is whole, or nearly so, is refused at another node");
+    value_of(draft, plan);
+    refused = check_fresh(plan, METTULOS_PLAN, state, METTULOS_STATE);
+    if (METTULOS_NUMBER(refused) != (number > 0 ? 16 : 0)) check_fail("a value is fit where the file is refused, or the other way round");
+}
+
+/* Slots of the plan that was last accepted, from a fresh start, with the supply that its types say. */
+static void give_out(size_t slots)
+{
+    uint64_t state[METTULOS_STATE];
+    check_fresh(plan, METTULOS_PLAN, state, METTULOS_STATE);
+    inputs_in_keeping(&inputs, plan, slots);
+    uint64_t refused = check_run(plan, METTULOS_PLAN, state, METTULOS_STATE, inputs.supplies, slots, inputs.declines, slots, answers, slots * plan[2]);
+    if (refused != 0) check_fail("a run that should go through is refused");
+    promised(&(struct given){plan, slots, inputs.supplies, inputs.declines, answers});
+}
+
+/* ---- plans that are told one by one */
+
+/* A leaf that wants what it is served, and a host. */
+#define LEAF(parent, c, t) {0, parent, {c, t}, {c, t}, 0, {0}}
+#define HOST(parent, wanted_c, wanted_t, served_c, served_t) {2, parent, {wanted_c, wanted_t}, {served_c, served_t}, 0, {0}}
+enum { BELOW_FIRST = 128, BELOW_SECOND = 129 }; /* as parents */
+
+/* One core with some nodes, and by which number and where the plan is refused. */
+struct told {
+    struct drafted_type supply;
+    uint8_t node_count;
+    struct drafted_node nodes[4];
+    uint32_t number, place;
+};
+
+static const struct told told[] = {
+    /* a core of (4,4), all of whose slots may be served in another period; and one of (3,4) */
+    {{4, 4}, 1, {LEAF(0, 6, 6)}, 0, 0},
+    {{4, 4}, 2, {LEAF(0, 2, 6), LEAF(0, 1, 3)}, 0, 0},
+    {{3, 4}, 2, {LEAF(0, 2, 6), LEAF(0, 1, 3)}, 12, 0},
+    {{3, 4}, 2, {LEAF(0, 1, 8), LEAF(0, 1, 6)}, 12, 1},
+    {{4, 4}, 2, {LEAF(0, 1, 8), LEAF(0, 1, 6)}, 13, 1},
+    /* periods that divide the core's */
+    {{4, 4}, 1, {LEAF(0, 1, 2)}, 0, 0},
+    {{3, 4}, 1, {LEAF(0, 1, 2)}, 12, 0},
+    {{4, 4}, 2, {LEAF(0, 1, 2), LEAF(0, 1, 2)}, 0, 0},
+    {{4, 4}, 2, {LEAF(0, 2, 2), LEAF(0, 1, 2)}, 14, 1},
+    {{4, 4}, 2, {LEAF(0, 1, 1), LEAF(0, 1, 3)}, 14, 1},
+    /* one slot too many, of 6 and of 12 */
+    {{4, 4}, 3, {LEAF(0, 3, 6), LEAF(0, 2, 6), LEAF(0, 2, 6)}, 14, 2},
+    {{4, 4}, 3, {LEAF(0, 4, 6), LEAF(0, 3, 6), LEAF(0, 1, 6)}, 14, 1},
+    {{4, 4}, 4, {LEAF(0, 3, 6), LEAF(0, 4, 6), LEAF(0, 0, 6), LEAF(0, 0, 3)}, 14, 1},
+    {{4, 4}, 3, {LEAF(0, 2, 3), LEAF(0, 1, 6), LEAF(0, 3, 12)}, 14, 2},
+    {{4, 4}, 3, {LEAF(0, 2, 3), LEAF(0, 1, 6), LEAF(0, 2, 12)}, 0, 0},
+    /* a whole host, by what it wants and in whatever period; with (3,4) or (5,6) it is not, though it is served all */
+    {{4, 4}, 3, {HOST(0, 4, 4, 4, 4), LEAF(BELOW_FIRST, 1, 3), LEAF(BELOW_FIRST, 4, 6)}, 0, 0},
+    {{4, 4}, 3, {HOST(0, 4, 4, 4, 4), LEAF(BELOW_FIRST, 1, 3), LEAF(BELOW_FIRST, 5, 6)}, 14, 2},
+    {{4, 4}, 3, {HOST(0, 3, 4, 4, 4), LEAF(BELOW_FIRST, 1, 3), LEAF(BELOW_FIRST, 2, 6)}, 12, 1},
+    {{4, 4}, 3, {HOST(0, 5, 5, 6, 6), LEAF(BELOW_FIRST, 1, 3), LEAF(BELOW_FIRST, 4, 6)}, 0, 0},
+    {{4, 4}, 2, {HOST(0, 5, 6, 6, 6), LEAF(BELOW_FIRST, 1, 4)}, 12, 1},
+    {{4, 4}, 2, {HOST(0, 6, 6, 6, 6), LEAF(BELOW_FIRST, 4, 4)}, 0, 0},
+    {{4, 4}, 2, {HOST(0, 5, 6, 6, 6), LEAF(BELOW_FIRST, 10, 12)}, 0, 0},
+    {{4, 4}, 2, {HOST(0, 5, 6, 6, 6), LEAF(BELOW_FIRST, 11, 12)}, 14, 1},
+    {{3, 4}, 2, {HOST(0, 4, 4, 4, 4), LEAF(BELOW_FIRST, 1, 3)}, 14, 0},
+    /* its siblings are served nothing */
+    {{4, 4}, 3, {LEAF(0, 0, 6), HOST(0, 6, 6, 6, 6), LEAF(BELOW_SECOND, 1, 4)}, 0, 0},
+    {{4, 4}, 3, {LEAF(0, 1, 6), HOST(0, 6, 6, 6, 6), LEAF(BELOW_SECOND, 1, 4)}, 14, 1},
+    {{4, 4}, 3, {HOST(0, 6, 6, 6, 6), LEAF(BELOW_FIRST, 1, 4), LEAF(0, 1, 12)}, 14, 2},
+    /* (0,T) is not whole */
+    {{0, 4}, 1, {LEAF(0, 0, 6)}, 12, 0},
+    {{0, 4}, 1, {LEAF(0, 0, 2)}, 12, 0},
+    {{0, 4}, 1, {LEAF(0, 0, 8)}, 0, 0},
+    {{0, 4}, 2, {LEAF(0, 0, 4), LEAF(0, 1, 4)}, 14, 1},
+    {{0, 1}, 1, {LEAF(0, 0, 3)}, 0, 0},
+    {{0, 1}, 1, {LEAF(0, 1, 3)}, 14, 0},
+    {{4, 4}, 2, {HOST(0, 0, 4, 4, 4), LEAF(BELOW_FIRST, 0, 6)}, 12, 1},
+    {{4, 4}, 2, {HOST(0, 0, 4, 4, 4), LEAF(BELOW_FIRST, 1, 4)}, 14, 1},
+    /* the longest periods */
+    {{4096, 4096}, 1, {LEAF(0, 4095, 4095)}, 0, 0},
+    {{4095, 4096}, 1, {LEAF(0, 1, 4095)}, 12, 0},
+    {{4095, 4095}, 1, {LEAF(0, 4096, 4096)}, 0, 0},
+    {{4095, 4095}, 2, {LEAF(0, 4095, 4096), LEAF(0, 1, 2048)}, 14, 1},
+};
+
+static void draft_told(struct draft *draft, const struct told *one)
+{
+    memset(draft, 0, sizeof *draft);
+    draft->p = draft->q = draft->supply_count = 1;
+    draft->supplies[0] = one->supply;
+    draft->node_count = one->node_count;
+    for (uint8_t i = 0; i < one->node_count; i++) {
+        draft->nodes[i] = one->nodes[i];
+        draft->nodes[i].name_length = 1;
+        draft->nodes[i].name[0] = (uint8_t)('a' + i);
+    }
+}
+
+static void plans_told(void)
+{
+    struct draft draft;
+    seen_kind("plans with whole parents that are told one by one");
+    for (size_t k = 0; k < sizeof told / sizeof *told; k++) {
+        draft_told(&draft, &told[k]);
+        expect(&draft, told[k].number, told[k].place);
+        for (int run = 0; run < 5 && told[k].number == 0; run++) give_out(100);
+    }
+    seen_kind("every cut and every single-byte change of a plan with whole parents");
+    draft_told(&draft, &(struct told){{4, 4}, 3, {HOST(0, 4, 4, 4, 4), LEAF(BELOW_FIRST, 1, 3), LEAF(BELOW_FIRST, 4, 6)}, 0, 0});
+    check_every_change(bytes, draft_bytes(&draft, bytes));
+}
+
+/* Twelve slots of three plans, worked out by hand: every core supplied, nobody declining. The shorter period goes first. */
+static void slots_told(void)
+{
+    static const struct {
+        struct told plan;
+        uint8_t slots[12];
+    } listed[] = {
+        {{{4, 4}, 1, {LEAF(0, 6, 6)}, 0, 0}, {0, 0, 0, 0, 0, 0, 0, 0, 0, 0, 0, 0}},
+        {{{4, 4}, 2, {LEAF(0, 2, 6), LEAF(0, 1, 3)}, 0, 0}, {1, 0, 0, 1, 254, 254, 1, 0, 0, 1, 254, 254}},
+        {{{4, 4}, 3, {HOST(0, 4, 4, 4, 4), LEAF(BELOW_FIRST, 1, 3), LEAF(BELOW_FIRST, 4, 6)}, 0, 0}, {1, 2, 2, 1, 2, 2, 1, 2, 2, 1, 2, 2}},
+    };
+    static const uint8_t supplies[12] = {1, 1, 1, 1, 1, 1, 1, 1, 1, 1, 1, 1};
+    static const uint64_t declines[12];
+    uint64_t state[METTULOS_STATE];
+    struct draft draft;
+    seen_kind("listed slots under whole parents");
+    for (size_t k = 0; k < sizeof listed / sizeof *listed; k++) {
+        draft_told(&draft, &listed[k].plan);
+        expect(&draft, 0, 0);
+        check_fresh(plan, METTULOS_PLAN, state, METTULOS_STATE);
+        check_run(plan, METTULOS_PLAN, state, METTULOS_STATE, supplies, 12, declines, 12, answers, 12);
+        check_bytes("the slots under a whole parent are not those worked out by hand", answers, listed[k].slots, 12);
+    }
+}
+
+/* ---- all small plans */
+
+/* The next type in the order of T and then C. */
+static struct drafted_type next_type(struct drafted_type type)
+{
+    return type.c < type.t ? (struct drafted_type){(uint16_t)(type.c + 1), type.t} : (struct drafted_type){0, (uint16_t)(type.t + 1)};
+}
+
+/* All pairs of leaves with T at most 6 below a parent. */
+static void all_leaves(struct draft *draft, uint8_t parent)
+{
+    static const struct drafted_type first = {0, 1};
+    struct drafted_node *one = &draft->nodes[draft->node_count], *other = one + 1;
+    uint64_t state[METTULOS_STATE];
+    draft->node_count += 2;
+    *one = *other = (struct drafted_node){0, parent, first, first, 1, {'x'}};
+    other->name[0] = 'y';
+    for (one->served = first; one->served.t <= 6; one->served = next_type(one->served)) {
+        for (other->served = first; other->served.t <= 6; other->served = next_type(other->served)) {
+            one->wanted = one->served;
+            other->wanted = other->served;
+            uint64_t refused = check_read(bytes, draft_bytes(draft, bytes), plan, METTULOS_PLAN);
+            if (refused == 0) {
+                give_out(24);
+                continue;
+            }
+            draft_value(draft, plan);
+            if (check_fresh(plan, METTULOS_PLAN, state, METTULOS_STATE) == 0) check_fail("a small plan is refused, and its value is fit");
+        }
+    }
+}
+
+static void small_plans(void)
+{
+    static const struct drafted_type first = {0, 1}, served[] = {{4, 4}, {6, 6}};
+    struct draft draft;
+    seen_kind("plans of a core with T at most 4 and two leaves with T at most 6, all");
+    for (struct drafted_type own = first; own.t <= 4; own = next_type(own)) {
+        draft_told(&draft, &(struct told){own, 0, {LEAF(0, 0, 1)}, 0, 0});
+        all_leaves(&draft, 0);
+    }
+    seen_kind("the same below a host that is served all slots of the core, all");
+    for (size_t k = 0; k < 2; k++) {
+        for (struct drafted_type own = first; own.t <= 4; own = next_type(own)) {
+            draft_told(&draft, &(struct told){{4, 4}, 1, {HOST(0, own.c, own.t, served[k].c, served[k].t)}, 0, 0});
+            all_leaves(&draft, BELOW_FIRST);
+        }
+    }
+}
+
+/* ---- deep plans that are refused by one thing */
+
+/* Which change, with the number by which the plan is refused then. */
+enum change { SHORTEN, OVERFILL, EMPTY_ODD, EMPTY_SERVING, CHANGES };
+
+static uint32_t change_plan(struct draft *draft, enum change change, int at_host)
+{
+    switch (change) {
+    case SHORTEN: return draft_shorten(draft, at_host);
+    case OVERFILL: return draft_overfill(draft, at_host);
+    default: return draft_empty(draft, at_host, change == EMPTY_ODD ? 12 : 14);
+    }
+}
+
+/* Makes such a plan from sound ones, of which the last is kept, and answers where it is refused. */
+static uint32_t make_refused(struct draft *draft, enum change change, int at_host)
+{
+    static struct draft sound;
+    for (uint32_t tries = 0; tries < 100000; tries++) {
+        if (sound.node_count == 0 || tries % 8 == 7) draft_deep(&sound);
+        *draft = sound;
+        uint32_t place = change_plan(draft, change, at_host);
+        if (place != NO_NODE) return place;
+    }
+    check_fail("no deep plan can be changed in this way");
+    return NO_NODE;
+}
+
+static void plans_refused(uint64_t rounds)
+{
+    static const enum thing things[CHANGES][2] = {{SUPPLY_SHORT_OF_WHOLE, HOST_SHORT_OF_WHOLE},
+                                                  {SUPPLY_OVERFULL, HOST_OVERFULL},
+                                                  {EMPTY_AND_ODD, EMPTY_AND_ODD},
+                                                  {EMPTY_AND_SERVING, EMPTY_AND_SERVING}};
+    struct draft draft;
+    seen_kind("deep plans refused for one slot at a parent that is whole, or for a parent of none");
+    for (uint64_t round = 0; round < rounds; round++) {
+        for (int change = 0; change < CHANGES; change++) {
+            for (int at_host = 0; at_host < 2; at_host++) {
+                uint32_t place = make_refused(&draft, (enum change)change, at_host);
+                expect(&draft, change == SHORTEN || change == EMPTY_ODD ? 12 : 14, place);
+                seen(things[change][at_host]);
+            }
+        }
+    }
+}
+
+void cases_of_whole_parents(uint64_t rounds)
+{
+    plans_told();
+    slots_told();
+    small_plans();
+    plans_refused(rounds);
+}

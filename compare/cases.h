@@ -7,6 +7,10 @@
 
 /* of_pairs.c */
 void cases_of_pairs(uint64_t rounds);
+/* of_small.c: plans of few nodes and short periods, all of them */
+void cases_of_small_plans(void);
+/* Slots of a plan that is fit, from a fresh start and supplied as its types say, held to what is promised. */
+void check_promised(const uint32_t *fit, size_t slots);
 /* of_files.c, and the plan of document 01, section "Decisions to check against" */
 void cases_of_files(uint64_t rounds);
 enum { DOCUMENT_BYTES = 60 };

@@ -38,6 +38,7 @@ int main(int count, char **words)
     seen_kind("the model's small decisions against all allocations");
     meaning_of_small_pairs();
     cases_of_pairs(rounds);
+    cases_of_small_plans();
     cases_of_files(rounds);
     cases_of_values(rounds);
     cases_of_slots(rounds);

@@ -3,15 +3,13 @@
 #include "check.h"
 #include "deep.h"
 #include "inputs.h"
-#include "promised.h"
 #include "seen.h"
 
 #include "../include/mettulos.h"
 
 #include <string.h>
 
-static struct inputs inputs;
-static uint8_t bytes[MOST_BYTES], answers[8 * MOST_SLOTS];
+static uint8_t bytes[MOST_BYTES];
 static uint32_t plan[METTULOS_PLAN];
 
 /* ---- plans as files and as values */
@@ -26,17 +24,6 @@ static void expect(const struct draft *draft, uint32_t number, uint32_t place)
     value_of(draft, plan);
     refused = check_fresh(plan, METTULOS_PLAN, state, METTULOS_STATE);
     if (METTULOS_NUMBER(refused) != (number > 0 ? 16 : 0)) check_fail("a value is fit where the file is refused, or the other way round");
-}
-
-/* Slots of the plan that was last accepted, from a fresh start, with the supply that its types say. */
-static void give_out(size_t slots)
-{
-    uint64_t state[METTULOS_STATE];
-    check_fresh(plan, METTULOS_PLAN, state, METTULOS_STATE);
-    inputs_in_keeping(&inputs, plan, slots);
-    uint64_t refused = check_run(plan, METTULOS_PLAN, state, METTULOS_STATE, inputs.supplies, slots, inputs.declines, slots, answers, slots * plan[2]);
-    if (refused != 0) check_fail("a run that should go through is refused");
-    promised(&(struct given){plan, slots, inputs.supplies, inputs.declines, answers});
 }
 
 /* ---- plans that are told one by one */
@@ -123,7 +110,7 @@ static void plans_told(void)
     for (size_t k = 0; k < sizeof told / sizeof *told; k++) {
         draft_told(&draft, &told[k]);
         expect(&draft, told[k].number, told[k].place);
-        for (int run = 0; run < 5 && told[k].number == 0; run++) give_out(100);
+        for (int run = 0; run < 5 && told[k].number == 0; run++) check_promised(plan, 100);
     }
     seen_kind("every cut and every single-byte change of a plan with whole parents");
     draft_told(&draft, &(struct told){{4, 4}, 3, {HOST(0, 4, 4, 4, 4), LEAF(BELOW_FIRST, 1, 3), LEAF(BELOW_FIRST, 4, 6)}, 0, 0});
@@ -144,6 +131,7 @@ static void slots_told(void)
     static const uint8_t supplies[12] = {1, 1, 1, 1, 1, 1, 1, 1, 1, 1, 1, 1};
     static const uint64_t declines[12];
     uint64_t state[METTULOS_STATE];
+    uint8_t answers[12];
     struct draft draft;
     seen_kind("listed slots under whole parents");
     for (size_t k = 0; k < sizeof listed / sizeof *listed; k++) {
@@ -152,56 +140,6 @@ static void slots_told(void)
         check_fresh(plan, METTULOS_PLAN, state, METTULOS_STATE);
         check_run(plan, METTULOS_PLAN, state, METTULOS_STATE, supplies, 12, declines, 12, answers, 12);
         check_bytes("the slots under a whole parent are not those worked out by hand", answers, listed[k].slots, 12);
-    }
-}
-
-/* ---- all small plans */
-
-/* The next type in the order of T and then C. */
-static struct drafted_type next_type(struct drafted_type type)
-{
-    return type.c < type.t ? (struct drafted_type){(uint16_t)(type.c + 1), type.t} : (struct drafted_type){0, (uint16_t)(type.t + 1)};
-}
-
-/* All pairs of leaves with T at most 6 below a parent. */
-static void all_leaves(struct draft *draft, uint8_t parent)
-{
-    static const struct drafted_type first = {0, 1};
-    struct drafted_node *one = &draft->nodes[draft->node_count], *other = one + 1;
-    uint64_t state[METTULOS_STATE];
-    draft->node_count += 2;
-    *one = *other = (struct drafted_node){0, parent, first, first, 1, {'x'}};
-    other->name[0] = 'y';
-    for (one->served = first; one->served.t <= 6; one->served = next_type(one->served)) {
-        for (other->served = first; other->served.t <= 6; other->served = next_type(other->served)) {
-            one->wanted = one->served;
-            other->wanted = other->served;
-            uint64_t refused = check_read(bytes, draft_bytes(draft, bytes), plan, METTULOS_PLAN);
-            if (refused == 0) {
-                give_out(24);
-                continue;
-            }
-            draft_value(draft, plan);
-            if (check_fresh(plan, METTULOS_PLAN, state, METTULOS_STATE) == 0) check_fail("a small plan is refused, and its value is fit");
-        }
-    }
-}
-
-static void small_plans(void)
-{
-    static const struct drafted_type first = {0, 1}, served[] = {{4, 4}, {6, 6}};
-    struct draft draft;
-    seen_kind("plans of a core with T at most 4 and two leaves with T at most 6, all");
-    for (struct drafted_type own = first; own.t <= 4; own = next_type(own)) {
-        draft_told(&draft, &(struct told){own, 0, {LEAF(0, 0, 1)}, 0, 0});
-        all_leaves(&draft, 0);
-    }
-    seen_kind("the same below a host that is served all slots of the core, all");
-    for (size_t k = 0; k < 2; k++) {
-        for (struct drafted_type own = first; own.t <= 4; own = next_type(own)) {
-            draft_told(&draft, &(struct told){{4, 4}, 1, {HOST(0, own.c, own.t, served[k].c, served[k].t)}, 0, 0});
-            all_leaves(&draft, BELOW_FIRST);
-        }
     }
 }
 
@@ -256,6 +194,5 @@ void cases_of_whole_parents(uint64_t rounds)
 {
     plans_told();
     slots_told();
-    small_plans();
     plans_refused(rounds);
 }

@@ -8,7 +8,8 @@
  * holds at least C. Sliding: every window of T slots does. A giving type stands in for a wanted one when whatever honours the giver honours the wanted.
  * A plan has up to eight supplies, which are the cores and are of aligned types, and up to 64 nodes, each under a supply or under an earlier node that is a
  * virtual host; the other nodes are leaves, the partitions. Each node has the type that it wants (aligned for an aligned leaf and for a host, sliding for a
- * sliding leaf) and the type that it is served, which is aligned. A slot lasts P/Q microseconds; slots and times count from 0.
+ * sliding leaf) and the type that it is served, which is aligned. A supply with C = T and a host that wants such a type are whole: they give all slots. A slot
+ * lasts P/Q microseconds; slots and times count from 0.
  *
  * What every function needs of its caller: a pointer and the length after it belong together (so many readable elements, and writable ones where the
  * pointer is not const, aligned as C has them), and no buffer that is written overlaps another argument. Nothing is kept after the call.
@@ -56,7 +57,7 @@ extern "C" {
 #define METTULOS_SAME_NAME 9 /* an earlier node has the name; the place is the length byte of the later one */
 #define METTULOS_LEFT_OVER 10 /* bytes follow the last name */
 #define METTULOS_NO_STAND_IN 11 /* the type that a node is served does not stand in for the one that it wants */
-#define METTULOS_NO_MULTIPLE 12 /* a node's served T is no multiple of its parent's T (the supply's, or the one that the host wants) */
+#define METTULOS_NO_MULTIPLE 12 /* a node's served T is no multiple of that of its parent (the supply's, or the T that the host wants), which is not whole */
 #define METTULOS_AT_ODDS 13 /* of a node's served T and that of an earlier node with the same parent, neither divides the other */
 #define METTULOS_OVERFULL 14 /* up to and with this node, those with its parent are served more than it has, over the longest served T among all of them */
 #define METTULOS_BEYOND 15 /* a slot, a time or an answer is over METTULOS_LAST_SLOT */

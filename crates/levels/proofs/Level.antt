@@ -106,7 +106,7 @@ module _ (l : Level) (kept : Kept l) where
     -- rule 14, cut down to one period of i: what those ahead of i ask for and i's own C are together at most what the parent owes
     ahead-fits : sumTo (ahead asks) (l .size) + l .c i ≤ l .owes (l .t i)
     unfolding often
-    ahead-fits = le-of-mul-le-mul-left (le-trans parts (le-trans (kept .rule14) whole)) once
+    ahead-fits = le-of-mul-le-mul-left (le-trans parts (le-trans (kept .rule14) scaled)) once
       where
         none-own : often * ahead asks i ≡ 0
         none-own = rw (ahead-own asks) (mul-zero often)
@@ -116,8 +116,8 @@ module _ (l : Level) (kept : Kept l) where
             rw (mul-add, ← own-load, ← sum-multiple often (ahead asks) (l .size))
             (sum-without (λ j. often * ahead asks j) (load l (longest l)) (l .size) i (h .there) none-own ahead-load)
 
-        whole : l .owes (longest l) ≤ often * l .owes (l .t i)
-        whole = rw (whole-periods (longest l) (l .t i) (longest-multiple i h)) at (kept .scales i h often)
+        scaled : l .owes (longest l) ≤ often * l .owes (l .t i)
+        scaled = rw (whole-periods (longest l) (l .t i) (longest-multiple i h)) at (kept .scales i h often)
 
     -- how often child j is charged in m slots from s on
     times : ℕ → ℕ → ℕ → ℕ

@@ -71,11 +71,11 @@ static uint32_t depth_of_spine(const struct tree *tree)
     return one > other ? one : other;
 }
 
-static void grow(struct tree *tree)
+static void grow(struct tree *tree, uint32_t most_nodes)
 {
-    uint32_t most = chance(50) ? NODES : 1 + (uint32_t)chance_below(NODES), first;
+    uint32_t most = chance(50) ? most_nodes : 1 + (uint32_t)chance_below(most_nodes), first;
     int alike = chance(40);
-    tree->whole = chance(25);
+    tree->whole = chance(30);
     tree->deepest = chance(20) ? DEPTH : 1 + (uint32_t)chance_below(DEPTH);
     tree->count = 0;
     tree->cores = 1 + (uint32_t)chance_below(chance(15) ? 2 : CORES);
@@ -222,10 +222,10 @@ static void shuffle(struct draft *draft, const struct tree *tree)
     }
 }
 
-void draft_deep(struct draft *draft)
+void draft_deep(struct draft *draft, uint32_t most_nodes)
 {
     struct tree tree;
-    grow(&tree);
+    grow(&tree, most_nodes);
     memset(draft, 0, sizeof *draft);
     draft->p = draft_tick();
     draft->q = draft_tick();

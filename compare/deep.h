@@ -4,8 +4,8 @@
 
 #include "generate.h"
 
-/* Any number of cores from 1 to 8, any depth from 1 to 8, half the time 64 nodes. */
-void draft_deep(struct draft *draft);
+/* Any number of cores from 1 to 8, any depth from 1 to 8, half the time as many nodes as there may be. */
+void draft_deep(struct draft *draft, uint32_t most_nodes);
 
 /* The depth of a node of a plan that is sound. */
 uint32_t draft_depth(const struct draft *draft, uint32_t i);

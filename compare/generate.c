@@ -120,10 +120,15 @@ static uint16_t wanted_period(uint16_t served_t, int small)
     return (uint16_t)(t < 1 || t > 4096 ? served_t : t);
 }
 
+/* A leaf's window that is too short to have anything is mostly made longer. */
 struct drafted_type draft_wanted(struct drafted_type served, uint8_t kind)
 {
     uint16_t t = wanted_period(served.t, kind == 2);
     uint16_t most = draft_most_wanted(served, kind, t);
+    if (kind < 2 && most == 0 && served.t <= 1000 && chance(80)) {
+        t = (uint16_t)(served.t * (1 + chance_below(3)) + chance_below(served.t));
+        most = draft_most_wanted(served, kind, t);
+    }
     uint16_t c = chance(75) ? most : (uint16_t)chance_below(most + 1u);
     return (struct drafted_type){c, t};
 }

@@ -15,7 +15,7 @@ static void deep_files(uint64_t rounds)
     struct draft draft;
     seen_kind("deep plans as files");
     for (uint64_t round = 0; round < rounds; round++) {
-        draft_deep(&draft);
+        draft_deep(&draft, 64);
         size_t len = draft_bytes(&draft, bytes);
         if (check_file(bytes, len) != 0) check_fail("a deep plan that should be sound is refused");
         if (METTULOS_NUMBER(check_read(bytes, chance_below(len), plan, METTULOS_PLAN)) != 1) check_fail("a plan cut short is not refused by 1");
@@ -34,7 +34,7 @@ static void deep_values(uint64_t rounds)
     struct draft draft;
     seen_kind("deep plans as values");
     for (uint64_t round = 0; round < 2 * rounds; round++) {
-        draft_deep(&draft);
+        draft_deep(&draft, 64);
         int filled = value_of(&draft, plan);
         if (check_fresh(plan, METTULOS_PLAN, state, METTULOS_STATE) != 0) check_fail("a deep plan value that should be sound is refused");
         if (filled) seen(UNUSED_JUNK_IGNORED);
@@ -55,7 +55,7 @@ static void deep_plans_filled(uint64_t rounds)
     struct draft draft;
     seen_kind("deep plans that just keep rule 14");
     for (uint64_t round = 0; round < 2 * rounds; round++) {
-        draft_deep(&draft);
+        draft_deep(&draft, 64);
         if (!draft_fill(&draft)) continue;
         if (check_read(bytes, draft_bytes(&draft, bytes), plan, METTULOS_PLAN) != 0) check_fail("a plan that just keeps rule 14 is refused");
         seen(RIGHT_AT_THE_ROOM);
@@ -67,7 +67,7 @@ static void make_broken(struct draft *draft, uint32_t number, uint32_t depth)
 {
     static struct draft sound;
     for (uint32_t tries = 0; tries < 100000; tries++) {
-        if (sound.node_count == 0 || tries % 3 == 2) draft_deep(&sound);
+        if (sound.node_count == 0 || tries % 3 == 2) draft_deep(&sound, 64);
         *draft = sound;
         if (draft_break(draft, number, depth)) return;
     }

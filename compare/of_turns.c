@@ -18,7 +18,7 @@ static uint32_t plan[METTULOS_PLAN];
 static void deep_plan(uint64_t *state, size_t slots)
 {
     struct draft draft;
-    draft_deep(&draft);
+    draft_deep(&draft, 64);
     value_of(&draft, plan);
     if (check_fresh(plan, METTULOS_PLAN, state, METTULOS_STATE) != 0) check_fail("a deep plan value that should be sound is refused");
     if (chance(60)) return;
@@ -94,6 +94,29 @@ static void turns(uint64_t rounds)
     }
 }
 
+/* So many slots as have two of the longest window that a leaf wants, where those are not too many. */
+static size_t slots_of_windows(void)
+{
+    uint32_t longest = 1;
+    for (uint32_t i = 0; i < plan[19]; i++) {
+        const uint32_t *node = plan + 20 + 6 * i;
+        if (node[0] != 2 && node[3] > longest) longest = node[3];
+    }
+    return longest <= 50 ? 2 * longest : 100;
+}
+
+/* Runs that are supplied as the types say, under plans of few nodes, whose periods are short. */
+static void runs_in_keeping(uint64_t rounds)
+{
+    struct draft draft;
+    seen_kind("runs under deep plans of few nodes, supplied as the types say");
+    for (uint64_t round = 0; round < rounds; round++) {
+        draft_deep(&draft, 16);
+        value_of(&draft, plan);
+        check_promised(plan, slots_of_windows());
+    }
+}
+
 /* Steps alone, from any state. */
 static void deep_steps(uint64_t rounds)
 {
@@ -146,6 +169,7 @@ static void refused_turns(uint64_t rounds)
 void cases_of_turns(uint64_t rounds)
 {
     turns(rounds);
+    runs_in_keeping(5 * rounds);
     deep_steps(rounds);
     last_slots(rounds);
     refused_turns(rounds);

@@ -316,8 +316,9 @@ void seen_step(const uint32_t *plan, const uint64_t *before, const uint64_t *aft
     }
 }
 
-/* By the kind of the leaf; in the second row those of odd periods, and those below hosts of odd periods. */
-static uint64_t windows_held[2][2], windows_just[2][2];
+/* By the kind of the leaf; in the second row those of odd periods, and those below hosts of odd periods. The leaves are counted once for each run, since the
+ * windows of one leaf are much alike. */
+static uint64_t windows_held[2][2], leaves_held[2][2], leaves_just[2][2];
 
 void seen_windows(const uint32_t *plan, uint32_t leaf, uint64_t windows, uint64_t just)
 {
@@ -325,7 +326,8 @@ void seen_windows(const uint32_t *plan, uint32_t leaf, uint64_t windows, uint64_
     find_places(plan, &places);
     uint32_t odd = places.odd[leaf] || places.below_odd[leaf], kind = node_of(plan, leaf)[0];
     windows_held[odd][kind] += windows;
-    windows_just[odd][kind] += just;
+    leaves_held[odd][kind] += windows > 0;
+    leaves_just[odd][kind] += just > 0;
 }
 
 /* ---- the report */
@@ -390,13 +392,19 @@ static void report_idle(void)
 
 static void report_windows(void)
 {
-    static const char *const held[] = {"windows held to what an aligned (0) or sliding (1) leaf wants", "the same at or below odd periods"};
-    static const char *const just[] = {"windows with just what an aligned (0) or sliding (1) leaf wants", "the same at or below odd periods"};
-    for (int odd = 0; odd < 2; odd++) print_row(held[odd], windows_held[odd], 0, 1);
-    for (int odd = 0; odd < 2; odd++) print_row(just[odd], windows_just[odd], 0, 1);
-    want_row("a window of an aligned (0) or sliding (1) leaf at or below an odd period:", windows_held[1], 0, 1, ENOUGH);
-    want_row("a window with just what an aligned (0) or sliding (1) leaf wants:", windows_just[0], 0, 1, ENOUGH);
-    want_row("a window with just what an aligned (0) or sliding (1) leaf at or below an odd period wants:", windows_just[1], 0, 1, ENOUGH);
+    static const char *const sorts[] = {"(0 aligned, 1 sliding)", "at or below odd periods (0 aligned, 1 sliding)"};
+    char what[120];
+    for (int odd = 0; odd < 2; odd++) {
+        snprintf(what, sizeof what, "windows held to what leaves want, %s", sorts[odd]);
+        print_row(what, windows_held[odd], 0, 1);
+        want_row(what, windows_held[odd], 0, 1, ENOUGH);
+        snprintf(what, sizeof what, "leaves with such windows, %s", sorts[odd]);
+        print_row(what, leaves_held[odd], 0, 1);
+        want_row(what, leaves_held[odd], 0, 1, ENOUGH);
+        snprintf(what, sizeof what, "leaves with such windows that had just what is wanted, %s", sorts[odd]);
+        print_row(what, leaves_just[odd], 0, 1);
+        want_row(what, leaves_just[odd], 0, 1, ENOUGH_OF_A_PART);
+    }
 }
 
 static void report_things(void)

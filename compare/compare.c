@@ -4,8 +4,8 @@
  *
  * The same seed gives the same inputs; more rounds give more of those that are made by chance. It prints how many cases of each kind ran, how many calls got
  * each refusal, and what else came up how often. It ends with status 0 if the two agreed on every case and everything came up often enough; with 1 at the first
- * disagreement, which it prints, where an answer is not the one that the documents or the meaning of a type give, and, after all cases, where something came up
- * too seldom; with 2 where it is not called as it should be. */
+ * disagreement, which it prints, where an answer is not the one that the documents or the meaning of a type give, where slots are not given out as is promised,
+ * and, after all cases, where something came up too seldom; with 2 where it is not called as it should be. */
 #include "cases.h"
 #include "check.h"
 #include "generate.h"

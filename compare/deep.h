@@ -17,12 +17,14 @@ int draft_break(struct draft *draft, uint32_t number, uint32_t depth);
 /* Changes a sound plan so that the sum of rule 14 just meets a parent's side. 0 where that cannot be done at the node that is tried. */
 int draft_fill(struct draft *draft);
 
-/* Each changes a sound plan at one parent, a supply or a host as is asked, and answers the node at which it is refused then; NO_NODE where the plan has no such
- * parent or, in the last two, none was tried. A whole parent with a child of an odd period is one slot short of whole: 12. A whole parent has to serve one slot
- * more than there is: 14. A parent has no slot at all, (0,T): by the number that is asked, 12 or 14. */
+/* Each changes a sound plan at one parent, a host or a supply as is asked, so that it is refused, and answers the node at which; NO_NODE where it cannot be done
+ * at the parent that is tried, and then the plan stays. */
 enum { NO_NODE = 64 };
+/* A whole parent with a child of an odd period gets one slot less than all: 12. */
 uint32_t draft_shorten(struct draft *draft, int at_host);
+/* The children of a whole parent are served one slot more than there is: 14. */
 uint32_t draft_overfill(struct draft *draft, int at_host);
+/* A parent gets no slot, (0,T): 12 or 14, as is asked. */
 uint32_t draft_empty(struct draft *draft, int at_host, uint32_t number);
 
 #endif

@@ -94,7 +94,7 @@ static void turns(uint64_t rounds)
     }
 }
 
-/* So many slots as have two of the longest window that a leaf wants, where those are not too many. */
+/* Twice the longest window that a leaf wants, but no more than a hundred slots. */
 static size_t slots_of_windows(void)
 {
     uint32_t longest = 1;

@@ -11,10 +11,12 @@
 /* ---- how often is enough */
 
 /* A thousand of each: a fault that shows in one of a hundred cases of a sort, each by itself, is then missed once in 23,000 times (0.99 to the 1,000th). With
- * fewer rounds than the thousand of the gate nothing is asked, since chance has too large a part in small counts. A hundred, with which a fault that shows in one of ten is missed once in 37,000 times, are
- * enough where what is counted is long or split finely: a run of a thousand slots or more, whose slots count by themselves; a rule broken at one depth, where
- * each rule has its thousand over all depths; calls that grant at one depth under one number of cores, whose grants have their thousand (those of one call are
- * much alike, which is why the calls are counted too); a slice that is NULL, where little but what goes with it is left to chance. */
+ * fewer rounds than the thousand of the gate nothing is asked, since chance has too large a part in small counts. A hundred, with which a fault that shows in
+ * one of ten is missed once in 37,000 times, are enough where what is counted is long or split finely: a run of a thousand slots or more, whose slots count by
+ * themselves; a rule broken at one depth, where each rule has its thousand over all depths; calls that grant at one depth under one number of cores, or at one
+ * depth to leaves of odd periods, whose grants have their thousand (those of one call are much alike, which is why the calls are counted too); whole hosts of
+ * one depth; leaves that had just what they want in some window, among a thousand that were held to it; a slice that is NULL, where little but what goes with
+ * it is left to chance. */
 enum { ENOUGH = 1000, ENOUGH_OF_A_PART = 100 };
 
 static uint64_t rounds_made;
@@ -159,8 +161,8 @@ static void want_calls(void)
 enum { AT_SUPPLIES = 3, AT_NODE_COUNT = 19, AT_NODES = 20, HOST = 2, IDLE = 254, NOT_SUPPLIED = 255, LONG_RUN = 1000 };
 
 static uint64_t plans_by_cores[9], plans_by_depth[9], plans_of_64;
-static uint64_t plans_odd[2];      /* with a child of an odd period under a supply, and under a host */
-static uint64_t plans_whole[9];    /* with a whole host that has children, by its depth */
+static uint64_t plans_odd[2];       /* with a child of an odd period under a supply, and under a host */
+static uint64_t plans_whole[9];     /* with a whole host that has children, by its depth */
 static uint64_t plans_whole_beside; /* with one that has siblings too */
 static uint64_t broken[4][9];
 static uint64_t things[THINGS];
@@ -191,7 +193,7 @@ static void find_places(const uint32_t *plan, struct places *places)
 /* The plan's whole hosts that have children, and its children of odd periods. */
 static void see_whole(const uint32_t *plan, const struct places *places)
 {
-    uint32_t children[256] = {0}, depths = 0, odd = 0, beside = 0; /* depths and odd as bits */
+    uint32_t children[256] = {0}, depths = 0, odd = 0, beside = 0; /* depths, and the sorts of parent, as bits */
     for (uint32_t i = 0; i < plan[AT_NODE_COUNT]; i++) children[node_of(plan, i)[1]]++;
     for (uint32_t i = 0; i < plan[AT_NODE_COUNT]; i++) {
         const uint32_t *node = node_of(plan, i);
@@ -245,7 +247,7 @@ static uint64_t idle_without_children;
 /* The answers of some slots, and what stands past the last node. */
 static void see_answers(const uint32_t *plan, const struct places *places, const uint64_t *before, size_t slots, const uint8_t *out)
 {
-    uint32_t cores = plan[2], depths = 0, odd = 0; /* bit d where depth d was granted */
+    uint32_t cores = plan[2], depths = 0, odd = 0; /* bit d where a leaf of depth d, and one of an odd period, was granted something */
     for (size_t k = 0; k < slots * cores; k++) {
         uint32_t core = (uint32_t)(k % cores), leaf = out[k];
         if (leaf == IDLE) idle_core[core]++;

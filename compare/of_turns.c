@@ -58,10 +58,10 @@ static void go_in_turns(uint64_t *state)
     }
 }
 
-/* How many slots a round has. Thousands in one of eight; after as many rounds as the gate has, in one of sixty-four, because they take most of the time. */
+/* How many slots a round has. Thousands in one of ten; after as many rounds as the gate has, in one of sixty-four, because they take most of the time. */
 static size_t slots_of_round(uint64_t round)
 {
-    if (round % (round < 1000 ? 8 : 64) != 0) return 1 + chance_below(300);
+    if (round % (round < 1000 ? 10 : 64) != 0) return 1 + chance_below(300);
     return 1000 + chance_below(chance(20) ? MOST_SLOTS - 999 : 1000);
 }
 

@@ -162,7 +162,7 @@ static uint32_t make_refused(struct draft *draft, enum change change, int at_hos
 {
     static struct draft sound;
     for (uint32_t tries = 0; tries < 100000; tries++) {
-        if (sound.node_count == 0 || tries % 8 == 7) draft_deep(&sound, 64);
+        if (sound.node_count == 0 || tries % 8 == 7) draft_deep(&sound, chance(40) ? 64 : 20);
         *draft = sound;
         uint32_t place = change_plan(draft, change, at_host);
         if (place != NO_NODE) return place;

@@ -145,7 +145,7 @@ static void slots_told(void)
 
 /* ---- deep plans that are refused by one thing */
 
-/* Which change, with the number by which the plan is refused then. */
+/* What is changed at the parent. */
 enum change { SHORTEN, OVERFILL, EMPTY_ODD, EMPTY_SERVING, CHANGES };
 
 static uint32_t change_plan(struct draft *draft, enum change change, int at_host)

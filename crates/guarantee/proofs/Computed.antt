@@ -235,7 +235,7 @@ computed = (
     served shorter (replicate 12 9) refl refl refl refl refl refl (5, refl) (omega arith),
     served hosted (replicate 12 9) refl refl refl refl refl refl (1, refl) (omega arith),
   ),
-  (refl, refl, refl, refl),
+  (refl, refl, refl, refl, refl),
   refl,
 )
   where

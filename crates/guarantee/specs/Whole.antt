@@ -109,13 +109,14 @@ abbrev pub RefusedBy : List ℕ → ℕ → ℕ → Type 0
 RefusedBy bytes rule node = said (readPlan bytes .answer) ≡ refused rule (at node)
 
 -- With (3,4) for (4,4) rule 12 refuses the same children: under the core, and under the host, whether the core still gives every slot or not. The host is served
--- all of (4,4) in the first of the two, and is not whole for that.
+-- all of (4,4) in the first of the two, and is not whole for that. Nor is a core that gives nothing, (0,4), though nobody asks for a slot of it.
 abbrev pub NotQuiteWhole : Type 0
 NotQuiteWhole =
     RefusedBy (frameBytes (3 of 4) (2 of 6) (4 of 6)) 12 0 ×
     RefusedBy (frameBytes (3 of 4) (1 of 2) (3 of 6)) 12 0 ×
     RefusedBy (hostBytes (4 of 4) (3 of 4) (4 of 4)) 12 1 ×
-    RefusedBy (hostBytes (3 of 4) (3 of 4) (3 of 4)) 12 1
+    RefusedBy (hostBytes (3 of 4) (3 of 4) (3 of 4)) 12 1 ×
+    RefusedBy (frameBytes (0 of 4) (0 of 6) (0 of 6)) 12 0
 
 -- A whole core owes M slots in M and not one more: rule 14 at the child that passes it.
 abbrev pub OverfullByOne : Type 0

@@ -23,7 +23,7 @@ module _ (own : SlotType) (b : Bool) (is : b ≡ isWhole own) where
   unfolding owes
   else-owes e m r h = rw (sym is ∙ e) h
 
-  -- which is then not whole
+  -- a parent that is found not to be whole is not
   pub not-whole : b ≡ false → isWhole own ≡ false
   not-whole e = sym is ∙ e
 

@@ -1,5 +1,5 @@
--- Rules 12 and 14 as document 01 has them, for every parent alike: the rules before document 02, request 2. They serve one purpose, to say that plans accepted
--- before stay accepted. Assumes nothing.
+-- Rules 12 and 14 as document 01 has them, for every parent alike: the rules before document 02, request 2. They serve to say that plans accepted before
+-- stay accepted, and which came to be, and nothing else. Assumes nothing.
 use Prim.Native.Nat.{ℕ, _*_, _/_, _%_, _≤_}
 use mathlib.Core.Path.{_≡_}
 use Rattle.plans.specs.Plan.{There, servedOf, ownType}

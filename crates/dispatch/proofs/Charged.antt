@@ -29,27 +29,27 @@ module _ (v : View) (onward : Parent → List ℕ → WalkEnd) (left : List ℕ)
       go true = refl
       go false = keeps
 
-module _ (plan : Plan) (sound : Sound plan) (declines : ℕ) where
+module _ (plan : Plan) (sound : Sound plan) (passed : ℕ → Bool) where
   -- a walk from a host keeps the host's own count and those of the nodes before it
-  pub walk-later : (levels h j : ℕ) (left : List ℕ) → j ≤ h → getD (walk (viewOf plan) declines levels (Under h) left .left) j 0 ≡ getD left j 0
+  pub walk-later : (levels h j : ℕ) (left : List ℕ) → j ≤ h → getD (walk (viewOf plan) passed levels (Under h) left .left) j 0 ≡ getD left j 0
   unfolding walk follow
   walk-later zero h j left l = refl
-  walk-later (suc levels) h j left l = go (choose (viewOf plan) left declines (Under h)) refl (walk-later levels)
+  walk-later (suc levels) h j left l = go (choose (viewOf plan) left passed (Under h)) refl (walk-later levels)
     where
-      go : (w : Pick) → choose (viewOf plan) left declines (Under h) ≡ w →
-          ((k j : ℕ) (counts : List ℕ) → j ≤ k → getD (walk (viewOf plan) declines levels (Under k) counts .left) j 0 ≡ getD counts j 0) →
-          getD (follow (viewOf plan) (walk (viewOf plan) declines levels) left w .left) j 0 ≡ getD left j 0
+      go : (w : Pick) → choose (viewOf plan) left passed (Under h) ≡ w →
+          ((k j : ℕ) (counts : List ℕ) → j ≤ k → getD (walk (viewOf plan) passed levels (Under k) counts .left) j 0 ≡ getD counts j 0) →
+          getD (follow (viewOf plan) (walk (viewOf plan) passed levels) left w .left) j 0 ≡ getD left j 0
       go nobody c below = refl
       go (just i) c below =
           let later : h < i =
-          host-earlier plan sound i (choice-below (viewOf plan) left declines (Under h) i c) h (choice-under (viewOf plan) left declines (Under h) i c) in
-          follow-count (viewOf plan) (walk (viewOf plan) declines levels) left i j (below i j (charge left i) (omega arith)) ∙
+          host-earlier plan sound i (choice-below (viewOf plan) left passed (Under h) i c) h (choice-under (viewOf plan) left passed (Under h) i c) in
+          follow-count (viewOf plan) (walk (viewOf plan) passed levels) left i j (below i j (charge left i) (omega arith)) ∙
           charge-other left i j (λ e. omega arith)
 
 -- whoever is chosen has one slot less after the walk, leaf or host, whether the slot ends in a grant or idle
 pub taken-is-charged : TakenIsCharged
 unfolding walk
-taken-is-charged plan sound declines levels x left i e =
+taken-is-charged plan sound passed levels x left i e =
     rw e
-    (follow-count (viewOf plan) (walk (viewOf plan) declines levels) left i i (walk-later plan sound declines levels i i (charge left i) (le-refl i)) ∙
+    (follow-count (viewOf plan) (walk (viewOf plan) passed levels) left i i (walk-later plan sound passed levels i i (charge left i) (le-refl i)) ∙
     charge-same left i)

@@ -19,8 +19,9 @@ use Rattle.dispatch.proofs.SlotsAlike.{SameCourse, fresh-alike, course-
 use Rattle.dispatch.proofs.SlotsPast.{course-kept}
 use Rattle.dispatch.specs.View.{viewOf, isLeaf, servedC, servedT}
 use Rattle.dispatch.specs.Slot.{unsupplied}
-use Rattle.dispatch.specs.Run.{Said, done, refused, Standing, Course, started, leftWithin, ready, roomy, outcome, courseTo, course, stateBy}
+use Rattle.dispatch.specs.Run.{Said, done, refused, Standing, Course, started, leftWithin, ready, roomy, outcome, courseTo, courseBy, course, stateBy}
 use Rattle.dispatch.specs.Run.{outBy, ran, outAfter, stepped}
+use Rattle.dispatch.specs.declared.Setting.{Setting}
 use Rattle.dispatch.specs.Unused.{SameState, SameSupply, SameDeclines, Asked, SameAsked, FreshIgnores, RunIgnores, StepIgnores, RunKeepsPast, StepKeepsPast}
 
 module _ (a b : Plan) (agree : Agree a b) where
@@ -60,7 +61,7 @@ pub fresh-ignores : FreshIgnores
 unfolding started
 fresh-ignores a b agree = rw (fit-alike a b agree, fresh-alike (viewOf a) (viewOf b) (view-alike a b agree))
 
-module _ (a b : Asked) (h : SameAsked a b) where
+module _ (setting : Setting) (a b : Asked) (h : SameAsked a b) where
   said-alike : (room : ℕ) →
       outcome (a .plan) (a .state) (length (a .supplies)) (length (a .declines)) room ≡
       outcome (b .plan) (b .state) (length (b .supplies)) (length (b .declines)) room
@@ -68,14 +69,16 @@ module _ (a b : Asked) (h : SameAsked a b) where
       rw (← (h .slots), ← (h .words))
       (outcome-alike (a .plan) (b .plan) (h .plans) (a .state) (b .state) (h .states) (length (a .supplies)) (length (a .declines)) room)
 
-  goes-alike : SameCourse (a .plan .size) (course (a .plan) (a .state) (a .supplies) (a .declines)) (course (b .plan) (b .state) (b .supplies) (b .declines))
-  unfolding course
+  goes-alike : SameCourse (a .plan .size) (course setting (a .plan) (a .state) (a .supplies) (a .declines))
+      (course setting (b .plan) (b .state) (b .supplies) (b .declines))
+  unfolding course courseBy
   goes-alike =
-      let from : ℕ → ℕ → ℕ → Course = λ m n k. courseTo (viewOf (b .plan)) m n (b .supplies) (b .declines) (b .state .left) k in
-      let same : from (a .plan .cores) (a .state .clock) (length (a .supplies)) ≡ course (b .plan) (b .state) (b .supplies) (b .declines) =
+      let from : ℕ → ℕ → ℕ → Course = λ m n k. courseTo (viewOf (b .plan)) m n (replicate k setting) (b .supplies) (b .declines) (b .state .left) k in
+      let same : from (a .plan .cores) (a .state .clock) (length (a .supplies)) ≡ course setting (b .plan) (b .state) (b .supplies) (b .declines) =
       ap₂ (λ m n. from m n (length (a .supplies))) (h .plans .cores) (h .states .clock) ∙ ap (from (b .plan .cores) (b .state .clock)) (h .slots) in
       rw same at
-      (course-alike (viewOf (a .plan)) (viewOf (b .plan)) (view-alike (a .plan) (b .plan) (h .plans)) (a .plan .cores) (a .state .clock) (a .supplies) (b .supplies)
+      (course-alike (viewOf (a .plan)) (viewOf (b .plan)) (view-alike (a .plan) (b .plan) (h .plans)) (a .plan .cores) (a .state .clock)
+      (replicate (length (a .supplies)) setting) (a .supplies) (b .supplies)
       (a .declines) (b .declines) (a .state .left) (b .state .left) (h .states .counts) (length (a .supplies)) (h .supplied) (h .declined))
 
 -- one outcome, of two runs that go alike from states that differ past the last node alone: so do the states that they hand back,
@@ -92,27 +95,27 @@ out-alike (refused r) n m c d out e g = refl
 -- a run ignores unused entries, entries past the last node, and bits that name no supply or no leaf
 pub run-ignores : RunIgnores
 unfolding ran outAfter
-run-ignores a b h out =
+run-ignores setting a b h out =
     let o = outcome (a .plan) (a .state) (length (a .supplies)) (length (a .declines)) (length out) in
-    let c = course (a .plan) (a .state) (a .supplies) (a .declines) in
-    let d = course (b .plan) (b .state) (b .supplies) (b .declines) in (
+    let c = course setting (a .plan) (a .state) (a .supplies) (a .declines) in
+    let d = course setting (b .plan) (b .state) (b .supplies) (b .declines) in (
       record {
-        outcome = said-alike a b h (length out);
+        outcome = said-alike setting a b h (length out);
         state =
-            rw (← (said-alike a b h (length out)), ← (h .slots))
-            (state-alike (a .plan) o (a .state) (b .state) (length (a .supplies)) c d (h .states) (goes-alike a b h));
+            rw (← (said-alike setting a b h (length out)), ← (h .slots))
+            (state-alike (a .plan) o (a .state) (b .state) (length (a .supplies)) c d (h .states) (goes-alike setting a b h));
       },
-      rw (← (said-alike a b h (length out)))
+      rw (← (said-alike setting a b h (length out)))
           (out-alike o (length (a .supplies) * a .plan .cores) (length (b .supplies) * b .plan .cores) c d out (rw (h .slots, h .plans .cores))
-          (goes-alike a b h .answers)),
+          (goes-alike setting a b h .answers)),
     )
 
 -- a step is a run of one
 pub step-ignores : StepIgnores
 unfolding stepped
-step-ignores a b agree s t states supplied supplied' declines declines' bytes words =
+step-ignores setting a b agree s t states supplied supplied' declines declines' bytes words =
     let ends =
-    run-ignores (record { plan = a; state = s; supplies = supplied ∷ []; declines = declines ∷ [] })
+    run-ignores setting (record { plan = a; state = s; supplies = supplied ∷ []; declines = declines ∷ [] })
     (record { plan = b; state = t; supplies = supplied' ∷ []; declines = declines' ∷ [] })
     (record { plans = agree; states = states; slots = refl; words = refl; supplied = one (SameSupply a) bytes; declined = one (SameDeclines a) words })
     (replicate 8 unsupplied) in
@@ -125,15 +128,15 @@ step-ignores a b agree s t states supplied supplied' declines declines' bytes wo
 
 -- a run hands back what stands past the last node
 pub run-keeps-past : RunKeepsPast
-unfolding ran course
-run-keeps-past plan state supplies declines room i past =
+unfolding ran course courseBy
+run-keeps-past setting plan state supplies declines room i past =
     go (outcome plan state (length supplies) (length declines) room)
   where
-    go : (o : Said) → getD (stateBy o state (length supplies) (course plan state supplies declines) .left) i 0 ≡ getD (state .left) i 0
-    go done = course-kept (viewOf plan) i past (plan .cores) (state .clock) supplies declines (state .left) (length supplies)
+    go : (o : Said) → getD (stateBy o state (length supplies) (course setting plan state supplies declines) .left) i 0 ≡ getD (state .left) i 0
+    go done = course-kept (viewOf plan) i past (plan .cores) (state .clock) (replicate (length supplies) setting) supplies declines (state .left) (length supplies)
     go (refused r) = refl
 
 -- and so does a step
 pub step-keeps-past : StepKeepsPast
 unfolding stepped
-step-keeps-past plan state supplied declines i past = run-keeps-past plan state (supplied ∷ []) (declines ∷ []) 8 i past
+step-keeps-past setting plan state supplied declines i past = run-keeps-past setting plan state (supplied ∷ []) (declines ∷ []) 8 i past

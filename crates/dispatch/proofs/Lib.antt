@@ -2,6 +2,8 @@ pub mod Choices
 pub mod Slots
 pub mod SlotsFresh
 pub mod SlotsDepth
+pub mod SlotsSame
+pub mod Passing
 pub mod SlotsLengths
 pub mod SlotsAlike
 pub mod SlotsPast
@@ -10,6 +12,7 @@ pub mod Kept
 pub mod KeptUnused
 pub mod KeptRefusals
 pub mod Choosing
+pub mod Takers
 pub mod Counting
 pub mod Walking
 pub mod Tested

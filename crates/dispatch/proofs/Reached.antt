@@ -4,7 +4,7 @@ use mathlib.Core.Bool.{Bool, true, false, cond}
 use mathlib.Core.List.{List, [], _∷_, _++_}
 use mathlib.Core.Path.{_≡_, refl, sym, ap, _∙_}
 use lib.Dec.{eqb}
-use lib.ListN.{length, take, drop, replicate, length-append}
+use lib.ListN.{length, take, drop, replicate, length-append, length-replicate}
 use lib.Seq.{take-at}
 use borrow.Author.Tests.{eqb-true}
 use native.Mathlib.Nat.{zero-add, one-mul}
@@ -29,12 +29,14 @@ use Rattle.dispatch.specs.Run.{
   started,
   roomy,
   courseTo,
+  courseBy,
   course,
   outcome,
   ran,
   outAfter,
   stepped,
 }
+use Rattle.dispatch.specs.declared.Setting.{Setting}
 use Rattle.dispatch.specs.Reached.{Reached, at-start, by-run, by-step, OneRun, ReachedAsOne}
 
 -- a fresh start that is done is that of a plan that fits
@@ -54,17 +56,20 @@ unfolding started
 start-fresh plan e = rw e
 
 -- the answers of a run are the front of its buffer
-module _ (plan : Plan) (fit : isFit plan ≡ true) (state : Standing) (more words out : List ℕ)
+module _ (setting : Setting) (plan : Plan) (fit : isFit plan ≡ true) (state : Standing) (more words out : List ℕ)
     (ends : outcome plan state (length more) (length words) (length out) ≡ done) where
-  pub front-answers : take (length more * plan .cores) (outAfter plan state more words out) ≡ course plan state more words .answers
-  unfolding outAfter course
+  pub front-answers : take (length more * plan .cores) (outAfter setting plan state more words out) ≡ course setting plan state more words .answers
+  unfolding outAfter course courseBy
   front-answers =
-      let long = length-answers (viewOf plan) (plan .cores) (state .clock) more words (state .left) out (cores-most plan (fits-sound plan fit)) (length more) in
-      rw (ends, take-at (course plan state more words .answers) (drop (length more * plan .cores) out) (length more * plan .cores) long)
+      let long =
+      length-answers (viewOf plan) (plan .cores) (state .clock) (replicate (length more) setting) more words (state .left) out
+      (cores-most plan (fits-sound plan fit)) (length more) in
+      rw (ends, take-at (course setting plan state more words .answers) (drop (length more * plan .cores) out) (length more * plan .cores) long)
 
 -- one run more
-module _ (plan : Plan) (state : Standing) (supplies declines answers : List ℕ) (so : OneRun plan state supplies declines answers) (more words out : List ℕ)
-    (ends : ran plan state more words (length out) .outcome ≡ done) where
+module _ (plan : Plan) (state : Standing) (settings : List Setting) (supplies declines answers : List ℕ)
+    (so : OneRun plan state settings supplies declines answers) (setting : Setting) (more words out : List ℕ)
+    (ends : ran setting plan state more words (length out) .outcome ≡ done) where
   -- it has as many decline words as supply bytes
   words-alike : length more ≡ length words
   unfolding ran roomy
@@ -72,43 +77,49 @@ module _ (plan : Plan) (state : Standing) (supplies declines answers : List ℕ)
       eqb-true (length more) (length words)
       (left-true (eqb (length more) (length words)) _ (done-tests plan state (length more) (length words) (length out) ends .1))
 
-  -- the inputs so far and the run's are the course of one run
-  joined : course plan (freshState plan) (supplies ++ more) (declines ++ words) ≡
+  -- the inputs so far and the run's are the slots of one course
+  joined : courseBy plan (freshState plan) (settings ++ replicate (length more) setting) (supplies ++ more) (declines ++ words) ≡
       record {
-        left = course plan state more words .left;
-        answers = course plan (freshState plan) supplies declines .answers ++ course plan state more words .answers;
+        left = course setting plan state more words .left;
+        answers = courseBy plan (freshState plan) settings supplies declines .answers ++ course setting plan state more words .answers;
       }
-  unfolding course
+  unfolding course courseBy
   joined =
       rw (length-append supplies more, so .stands)
-      (runs-join (viewOf plan) (plan .cores) 0 supplies declines more words (freshLeft (viewOf plan)) (so .alike) ∙ rw (zero-add (length supplies)))
+      (runs-join (viewOf plan) (plan .cores) 0 settings (replicate (length more) setting) supplies declines more words (freshLeft (viewOf plan)) (so .set)
+      (so .alike) ∙ rw (zero-add (length supplies)))
 
-  one-more : OneRun plan (ran plan state more words (length out) .state) (supplies ++ more) (declines ++ words)
-      (answers ++ take (length more * plan .cores) (outAfter plan state more words out))
+  one-more : OneRun plan (ran setting plan state more words (length out) .state) (settings ++ replicate (length more) setting) (supplies ++ more)
+      (declines ++ words) (answers ++ take (length more * plan .cores) (outAfter setting plan state more words out))
   unfolding ran
   one-more =
       record {
         fit = so .fit;
+        set = length-append settings _ ∙ omega (arith, so .set, length-replicate (length more) setting) ∙ sym (length-append supplies more);
         alike = length-append supplies more ∙ omega (arith, so .alike, words-alike) ∙ sym (length-append declines words);
         stands = rw (ends, joined, length-append supplies more, ← (ap (λ s. s .clock) (so .stands)));
-        answered = rw (joined, front-answers plan (so .fit) state more words out ends, so .answered);
+        answered = rw (joined, front-answers setting plan (so .fit) state more words out ends, so .answered);
       }
 
 -- one step more is one run more, into eight bytes of 255
-module _ (plan : Plan) (state : Standing) (supplies declines answers : List ℕ) (so : OneRun plan state supplies declines answers) (supplied word : ℕ)
-    (ends : stepped plan state supplied word .outcome ≡ done) where
-  step-more : OneRun plan (stepped plan state supplied word .state) (supplies ++ (supplied ∷ [])) (declines ++ (word ∷ []))
-      (answers ++ take (plan .cores) (stepped plan state supplied word .grants))
+module _ (plan : Plan) (state : Standing) (settings : List Setting) (supplies declines answers : List ℕ)
+    (so : OneRun plan state settings supplies declines answers) (setting : Setting) (supplied word : ℕ)
+    (ends : stepped setting plan state supplied word .outcome ≡ done) where
+  step-more : OneRun plan (stepped setting plan state supplied word .state) (settings ++ (setting ∷ [])) (supplies ++ (supplied ∷ []))
+      (declines ++ (word ∷ [])) (answers ++ take (plan .cores) (stepped setting plan state supplied word .grants))
   unfolding stepped
   step-more =
-      rw (one-mul (plan .cores)) at (one-more plan state supplies declines answers so (supplied ∷ []) (word ∷ []) (replicate 8 unsupplied) ends)
+      rw (one-mul (plan .cores)) at
+      (one-more plan state settings supplies declines answers so setting (supplied ∷ []) (word ∷ []) (replicate 8 unsupplied) ends)
 
 pub reached-as-one : ReachedAsOne
-unfolding course courseTo
-reached-as-one plan state supplies declines answers (at-start e) =
+unfolding courseBy courseTo
+reached-as-one plan state settings supplies declines answers (at-start e) =
     let fit = start-fit plan e in
-    record { fit = fit; alike = refl; stands = start-fresh plan fit; answered = refl }
-reached-as-one plan state supplies declines answers (by-run {state = s} {supplies = ss} {declines = ds} {answers = given} r more words out e) =
-    one-more plan s ss ds given (reached-as-one plan s ss ds given r) more words out e
-reached-as-one plan state supplies declines answers (by-step {state = s} {supplies = ss} {declines = ds} {answers = given} r supplied word e) =
-    step-more plan s ss ds given (reached-as-one plan s ss ds given r) supplied word e
+    record { fit = fit; set = refl; alike = refl; stands = start-fresh plan fit; answered = refl }
+reached-as-one plan state settings supplies declines answers
+    (by-run {state = s} {settings = ws} {supplies = ss} {declines = ds} {answers = given} r setting more words out e) =
+    one-more plan s ws ss ds given (reached-as-one plan s ws ss ds given r) setting more words out e
+reached-as-one plan state settings supplies declines answers
+    (by-step {state = s} {settings = ws} {supplies = ss} {declines = ds} {answers = given} r setting supplied word e) =
+    step-more plan s ws ss ds given (reached-as-one plan s ws ss ds given r) setting supplied word e

@@ -21,6 +21,7 @@ use Rattle.dispatch.proofs.Slots.{refilled-due, refilled-kept, refilled
 use Rattle.dispatch.proofs.SlotsFresh.{fresh-count}
 use Rattle.dispatch.specs.View.{View, viewOf, bitOf}
 use Rattle.dispatch.specs.Choice.{Pick, nobody, just, choose}
+use Rattle.dispatch.specs.Passed.{passedOver}
 use Rattle.dispatch.specs.Slot.{WalkEnd, SlotEnd, refilled, charge, follow, walk, granting, serveCore, serveTo, slot}
 use Rattle.dispatch.specs.Run.{
   done,
@@ -36,12 +37,15 @@ use Rattle.dispatch.specs.Run.{
   inTime,
   outcome,
   courseTo,
+  courseBy,
   course,
   started,
   ran,
   stepped,
 }
 use Rattle.dispatch.specs.Ready.{FreshReady, RunReady, StepReady}
+use Rattle.dispatch.specs.declared.Setting.{Setting}
+use Rattle.dispatch.specs.declared.Setting.the-variants.{Off}
 
 -- what holds of every node's count
 abbrev pub Each : (ℕ → ℕ → Type 0) → List ℕ → Type 0
@@ -67,7 +71,7 @@ module _ (v : View) (P : ℕ → ℕ → Type 0) (full : (i : ℕ) → i < v .si
       go (yes e) = rw (e, charge-same left k) (less k (getD left k 0) l (h k))
       go (no other) = rw (charge-other left k i other) (h i)
 
-  module _ (declines : ℕ) where
+  module _ (passed : ℕ → Bool) where
     -- after what follows a choice, where it does after the walk below a host,
     each-follow : (onward : Parent → List ℕ → WalkEnd) → ((x : Parent) (left : List ℕ) → Each P left → Each P (onward x left .left)) →
         (left : List ℕ) → Each P left → (w : Pick) → ((i : ℕ) → w ≡ just i → i < v .size) → Each P (follow v onward left w .left)
@@ -80,47 +84,50 @@ module _ (v : View) (P : ℕ → ℕ → Type 0) (full : (i : ℕ) → i < v .si
         go false = keeps (Under k) (charge left k) (each-charge left k (there k refl) h)
 
     -- after a walk,
-    each-walk : (levels : ℕ) (x : Parent) (left : List ℕ) → Each P left → Each P (walk v declines levels x left .left)
+    each-walk : (levels : ℕ) (x : Parent) (left : List ℕ) → Each P left → Each P (walk v passed levels x left .left)
     unfolding walk
     each-walk zero x left h = h
     each-walk (suc levels) x left h =
-        each-follow (walk v declines levels) (each-walk levels) left h (choose v left declines x) (λ i e. choice-below v left declines x i e)
+        each-follow (walk v passed levels) (each-walk levels) left h (choose v left passed x) (λ i e. choice-below v left passed x i e)
 
     module _ (supplied : ℕ) where
       -- after a core,
-      each-core : (so : SlotEnd) (s : ℕ) → Each P (so .left) → Each P (serveCore v supplied declines so s .left)
+      each-core : (so : SlotEnd) (s : ℕ) → Each P (so .left) → Each P (serveCore v supplied passed so s .left)
       unfolding serveCore granting
       each-core so s h = go (bitOf supplied s)
         where
-          go : (b : Bool) → Each P (cond b (granting so s (walk v declines 8 (Supply s) (so .left))) so .left)
+          go : (b : Bool) → Each P (cond b (granting so s (walk v passed 8 (Supply s) (so .left))) so .left)
           go true = each-walk 8 (Supply s) (so .left) h
           go false = h
 
       -- after the first k cores,
-      each-serve : (so : SlotEnd) (k : ℕ) → Each P (so .left) → Each P (serveTo v supplied declines so k .left)
+      each-serve : (so : SlotEnd) (k : ℕ) → Each P (so .left) → Each P (serveTo v supplied passed so k .left)
       unfolding serveTo
       each-serve so zero h = h
-      each-serve so (suc k) h = each-core (serveTo v supplied declines so k) k (each-serve so k h)
+      each-serve so (suc k) h = each-core (serveTo v supplied passed so k) k (each-serve so k h)
 
-      -- after a slot,
-      pub each-slot : (cores n : ℕ) (left : List ℕ) → Each P left → Each P (slot v cores n supplied declines left .left)
-      unfolding slot
-      each-slot cores n left h = each-serve _ cores (each-refilled n left h)
+  -- after a slot,
+  pub each-slot : (setting : Setting) (cores n supplied declines : ℕ) (left : List ℕ) → Each P left →
+      Each P (slot setting v cores n supplied declines left .left)
+  unfolding slot
+  each-slot setting cores n supplied declines left h =
+      each-serve (passedOver setting v (refilled v n left) declines) supplied _ cores (each-refilled n left h)
 
   -- and after the first k slots of a run
-  pub each-course : (cores n : ℕ) (supplies declines left : List ℕ) → Each P left → (k : ℕ) → Each P (courseTo v cores n supplies declines left k .left)
+  pub each-course : (cores n : ℕ) (settings : List Setting) (supplies declines left : List ℕ) → Each P left → (k : ℕ) →
+      Each P (courseTo v cores n settings supplies declines left k .left)
   unfolding courseTo
-  each-course cores n supplies declines left h zero = h
-  each-course cores n supplies declines left h (suc k) =
-      each-slot (getD declines k 0) (getD supplies k 0) cores (n + k) _ (each-course cores n supplies declines left h k)
+  each-course cores n settings supplies declines left h zero = h
+  each-course cores n settings supplies declines left h (suc k) =
+      each-slot (getD settings k Off) cores (n + k) (getD supplies k 0) (getD declines k 0) _ (each-course cores n settings supplies declines left h k)
 
 -- node i, where it is there, has so many left at most
 abbrev Within : View → ℕ → ℕ → Type 0
 Within v i x = i < v .size → x ≤ v .c i
 
 -- no node has more left than its served C after the first k slots of a run, where none has before it
-within-course : (v : View) (cores n : ℕ) (supplies declines left : List ℕ) → Each (Within v) left → (k : ℕ) →
-    Each (Within v) (courseTo v cores n supplies declines left k .left)
+within-course : (v : View) (cores n : ℕ) (settings : List Setting) (supplies declines left : List ℕ) → Each (Within v) left → (k : ℕ) →
+    Each (Within v) (courseTo v cores n settings supplies declines left k .left)
 within-course v = each-course v (Within v) (λ i l m. omega arith) (λ i x l h m. omega (arith, h m))
 
 module _ (plan : Plan) (state : Standing) where
@@ -168,11 +175,11 @@ fresh-ready plan = go (isFit plan) refl
 
 -- what is ready before a run that is done is so after it
 pub run-ready : RunReady
-unfolding ran course inTime
-run-ready plan state supplies declines room e =
+unfolding ran course courseBy inTime
+run-ready setting plan state supplies declines room e =
     rw e
     (within-ready plan _ (ready-fit plan state is) (leb-true (state .clock + length supplies) (2 ^ 40) (tests .2))
-    (within-course (viewOf plan) _ _ supplies declines (state .left) (ready-within plan state is) (length supplies)))
+    (within-course (viewOf plan) _ _ _ supplies declines (state .left) (ready-within plan state is) (length supplies)))
   where
     tests : (ready plan state ≡ true) × (roomy plan (length supplies) (length declines) room ≡ true) × (inTime (state .clock) (length supplies) ≡ true)
     tests = done-tests plan state (length supplies) (length declines) room e
@@ -183,4 +190,4 @@ run-ready plan state supplies declines room e =
 -- and so it is after a step that is done
 pub step-ready : StepReady
 unfolding stepped
-step-ready plan state supplied declines e = run-ready plan state _ _ 8 e
+step-ready setting plan state supplied declines e = run-ready setting plan state _ _ 8 e

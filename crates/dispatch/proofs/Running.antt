@@ -3,7 +3,7 @@ use Prim.Native.Nat.{ℕ, zero, suc, _+_, _*_, _^_, _≤_, _<_}
 use mathlib.Core.Bool.{true}
 use mathlib.Core.List.{List, [], _∷_, _++_}
 use mathlib.Core.Path.{_≡_, refl, sym, ap, _∙_}
-use lib.ListN.{length, getD, take, drop, replicate, length-append, length-drop, take-append-drop}
+use lib.ListN.{length, getD, take, drop, replicate, length-append, length-drop, take-append-drop, getD-replicate}
 use lib.Seq.{paste, length-take-le, take-at, drop-append-add, drop-drop}
 use native.Mathlib.Nat.{le-antisymm, add-zero, zero-mul, one-mul, suc-mul, mul-le-mul-left, mul-le-mul-right}
 use native.Mathlib.Numerals.{add-one}
@@ -18,9 +18,11 @@ use Rattle.dispatch.proofs.Refusals.{Refusal}
 use Rattle.dispatch.proofs.SlotsLengths.{length-grants, slot-past}
 use Rattle.dispatch.specs.View.{View, viewOf}
 use Rattle.dispatch.specs.Slot.{SlotEnd, slotEnd, slot, unsupplied}
-use Rattle.dispatch.specs.Run.{said, Standing, standing, outcome, Course, courseTo, course, stateBy, outBy, ran, outAfter, stepped}
+use Rattle.dispatch.specs.Run.{said, Standing, standing, outcome, Course, courseTo, courseBy, course, stateBy, outBy, ran, outAfter, stepped}
 use Rattle.dispatch.specs.declared.Outcome.{Outcome}
 use Rattle.dispatch.specs.declared.Outcome.the-variants.{Done, Beyond, Unfit, Misfit}
+use Rattle.dispatch.specs.declared.Setting.{Setting}
+use Rattle.dispatch.specs.declared.Setting.the-variants.{Off}
 use Rattle.dispatch.specs.declared.State.{State}
 use Rattle.dispatch.specs.declared.Served.{Served}
 
@@ -33,11 +35,11 @@ paste-behind front d part out at n e h =
     rw (h, take-at front (drop at d) at e, beyond)
 
 -- The loop over the slots of a run from counts `start` into a buffer d. Its invariant is i ≤ k with `Given` below.
-module _ (v : View) (cores n : ℕ) (supplies declines start d : List ℕ) where
+module _ (v : View) (cores n : ℕ) (settings : List Setting) (supplies declines start d : List ℕ) where
   -- the counts after the first i slots, and the buffer with their answers at its front
   pub record Given (left out : List ℕ) (i : ℕ) : Type 0 where
-    pub counts : left ≡ courseTo v cores n supplies declines start i .left
-    pub buffer : out ≡ courseTo v cores n supplies declines start i .answers ++ drop (i * cores) d
+    pub counts : left ≡ courseTo v cores n settings supplies declines start i .left
+    pub buffer : out ≡ courseTo v cores n settings supplies declines start i .answers ++ drop (i * cores) d
 
   -- before the first slot
   pub give-none : Given start d 0
@@ -45,16 +47,17 @@ module _ (v : View) (cores n : ℕ) (supplies declines start d : List ℕ) where
   give-none = record { counts = refl; buffer = rw (zero-mul cores) }
 
   -- a slot has an answer for each core
-  length-one : cores ≤ 8 → (m supplied declined : ℕ) (left : List ℕ) → length (take cores (slot v cores m supplied declined left .grants)) ≡ cores
-  length-one few m supplied declined left =
-      length-take-le cores (slot v cores m supplied declined left .grants) (omega (arith, length-grants v declined supplied cores m left))
+  length-one : cores ≤ 8 → (setting : Setting) (m supplied declined : ℕ) (left : List ℕ) →
+      length (take cores (slot setting v cores m supplied declined left .grants)) ≡ cores
+  length-one few setting m supplied declined left =
+      length-take-le cores (slot setting v cores m supplied declined left .grants) (omega (arith, length-grants setting v cores m supplied declined left))
 
   -- and so has each of a run
-  pub length-answers : cores ≤ 8 → (i : ℕ) → length (courseTo v cores n supplies declines start i .answers) ≡ i * cores
+  pub length-answers : cores ≤ 8 → (i : ℕ) → length (courseTo v cores n settings supplies declines start i .answers) ≡ i * cores
   unfolding courseTo
   length-answers few zero = sym (zero-mul cores)
   length-answers few (suc i) =
-      length-append (courseTo v cores n supplies declines start i .answers) _ ∙ rw (length-answers few i, length-one few, suc-mul i cores)
+      length-append (courseTo v cores n settings supplies declines start i .answers) _ ∙ rw (length-answers few i, length-one few, suc-mul i cores)
 
   module _ (few : cores ≤ 8) (k : ℕ) (room : k * cores ≤ length d) (left out : List ℕ) (i : ℕ) (so : Given left out i) where
     -- the buffer keeps its length
@@ -62,7 +65,7 @@ module _ (v : View) (cores n : ℕ) (supplies declines start d : List ℕ) where
     give-length l =
         let most : i * cores ≤ k * cores = mul-le-mul-right cores l in
         ap length (so .buffer)
-        ∙ length-append (courseTo v cores n supplies declines start i .answers) (drop (i * cores) d)
+        ∙ length-append (courseTo v cores n settings supplies declines start i .answers) (drop (i * cores) d)
         ∙ omega (arith, length-answers few i, length-drop (i * cores) d)
 
     -- there is a place for the next slot's answers
@@ -72,8 +75,8 @@ module _ (v : View) (cores n : ℕ) (supplies declines start d : List ℕ) where
         omega (arith, give-length (omega arith), rw (add-one i, suc-mul) at most)
 
   -- one slot more
-  pub give-more : cores ≤ 8 → (left out : List ℕ) (i : ℕ) → Given left out i →
-      (next : SlotEnd) → next ≡ slot v cores (n + i) (getD supplies i 0) (getD declines i 0) left →
+  give-more : cores ≤ 8 → (left out : List ℕ) (i : ℕ) → Given left out i →
+      (next : SlotEnd) → next ≡ slot (getD settings i Off) v cores (n + i) (getD supplies i 0) (getD declines i 0) left →
       (after : List ℕ) → after ≡ paste out (i * cores) (next .grants) cores → Given (next .left) after (i + 1)
   unfolding courseTo
   give-more few left out i so next e after h =
@@ -81,22 +84,36 @@ module _ (v : View) (cores n : ℕ) (supplies declines start d : List ℕ) where
         counts = rw (add-one i, e, so .counts);
         buffer =
             h
-            ∙ paste-behind (courseTo v cores n supplies declines start i .answers) d (next .grants) out (i * cores) cores (length-answers few i) (so .buffer)
+            ∙ paste-behind (courseTo v cores n settings supplies declines start i .answers) d (next .grants) out (i * cores) cores (length-answers few i) (so .buffer)
             ∙ rw (add-one i, suc-mul i cores, e, so .counts);
       }
 
-module _ (plan : Plan) (state : State) (supplies declines d left out : List ℕ) (i : ℕ)
-    (so : Given (viewOf plan) (plan .cores) (state .clock) supplies declines (state .left) d left out i)
+module _ (setting : Setting) (plan : Plan) (state : State) (supplies declines d left out : List ℕ) (i : ℕ)
+    (so : Given (viewOf plan) (plan .cores) (state .clock) (replicate (length supplies) setting) supplies declines (state .left) d left out i)
     (l : i ≤ length supplies) (h : length supplies ≤ i) where
+  abbrev from : ℕ → Course
+  from = courseTo (viewOf plan) (plan .cores) (state .clock) (replicate (length supplies) setting) supplies declines (state .left)
+
   -- past the last slot the counts are the run's
-  pub give-counts : left ≡ course plan (standing state) supplies declines .left
-  unfolding course
-  give-counts = rw (← (le-antisymm l h)) (so .counts)
+  pub give-counts : left ≡ course setting plan (standing state) supplies declines .left
+  unfolding course courseBy
+  give-counts = so .counts ∙ ap (λ k. from k .left) (le-antisymm l h)
 
   -- and so is the buffer
-  pub give-buffer : out ≡ course plan (standing state) supplies declines .answers ++ drop (length supplies * plan .cores) d
-  unfolding course
-  give-buffer = rw (← (le-antisymm l h)) (so .buffer)
+  pub give-buffer : out ≡ course setting plan (standing state) supplies declines .answers ++ drop (length supplies * plan .cores) d
+  unfolding course courseBy
+  give-buffer = so .buffer ∙ ap (λ k. from k .answers ++ drop (k * plan .cores) d) (le-antisymm l h)
+
+-- every slot of a run has the run's setting
+module _ (setting : Setting) (v : View) (cores n : ℕ) (supplies declines start d : List ℕ) where
+  pub give-one : cores ≤ 8 → (left out : List ℕ) (i : ℕ) →
+      Given v cores n (replicate (length supplies) setting) supplies declines start d left out i → i < length supplies →
+      (next : SlotEnd) → next ≡ slot setting v cores (n + i) (getD supplies i 0) (getD declines i 0) left →
+      (after : List ℕ) → after ≡ paste out (i * cores) (next .grants) cores →
+      Given v cores n (replicate (length supplies) setting) supplies declines start d (next .left) after (i + 1)
+  give-one few left out i so l next e after h =
+      give-more v cores n (replicate (length supplies) setting) supplies declines start d few left out i so next
+      (e ∙ ap (λ a. slot a v cores (n + i) (getD supplies i 0) (getD declines i 0) left) (sym (getD-replicate (length supplies) i setting Off l))) after h
 
 -- an index of one list is one of another as long
 pub second-place : (s d : List ℕ) (i : ℕ) → length s ≡ length d → i < length s → i < length d
@@ -126,60 +143,60 @@ refused-room Beyond h n c out = refl
 refused-room Unfit h n c out = refl
 refused-room Misfit h n c out = refl
 
-module _ (plan : Plan) (state : State) (supplies declines : List ℕ) (o : Outcome) where
+module _ (setting : Setting) (plan : Plan) (state : State) (supplies declines : List ℕ) (o : Outcome) where
   module _ (room : ℕ) (e : said o ≡ outcome plan (standing state) (length supplies) (length declines) room) where
     -- a refused run hands back the given state
-    pub run-refused : Refusal o → record { outcome = said o; state = standing state } ≡ ran plan (standing state) supplies declines room
+    pub run-refused : Refusal o → record { outcome = said o; state = standing state } ≡ ran setting plan (standing state) supplies declines room
     unfolding ran
     run-refused h = rw (← e, refused-state o h)
 
     -- and one that is done the counts after it, with the clock moved on
-    pub run-done : o ≡ Done → (left : List ℕ) → left ≡ course plan (standing state) supplies declines .left →
-        record { outcome = said o; state = record { clock = state .clock + length supplies; left = left } } ≡ ran plan (standing state) supplies declines room
+    pub run-done : o ≡ Done → (left : List ℕ) → left ≡ course setting plan (standing state) supplies declines .left →
+        record { outcome = said o; state = record { clock = state .clock + length supplies; left = left } } ≡ ran setting plan (standing state) supplies declines room
     unfolding ran
     run-done h left l = rw (← e, h, l)
 
   module _ (out : List ℕ) (e : said o ≡ outcome plan (standing state) (length supplies) (length declines) (length out)) where
     -- a refused run writes nowhere
-    pub room-kept : Refusal o → out ≡ outAfter plan (standing state) supplies declines out
+    pub room-kept : Refusal o → out ≡ outAfter setting plan (standing state) supplies declines out
     unfolding outAfter
     room-kept h = rw (← e, refused-room o h)
 
     -- and one that is done lays its answers down, and leaves the room beyond
     pub room-filled : o ≡ Done → (after : List ℕ) →
-        after ≡ course plan (standing state) supplies declines .answers ++ drop (length supplies * plan .cores) out →
-        after ≡ outAfter plan (standing state) supplies declines out
+        after ≡ course setting plan (standing state) supplies declines .answers ++ drop (length supplies * plan .cores) out →
+        after ≡ outAfter setting plan (standing state) supplies declines out
     unfolding outAfter
     room-filled h after l = rw (← e, h, l)
 
-module _ (plan : Plan) (state : Standing) (supplied declines : ℕ) where
+module _ (setting : Setting) (plan : Plan) (state : Standing) (supplied declines : ℕ) where
   -- a run of one is one slot
   pub course-one :
-      let next : SlotEnd = slot (viewOf plan) (plan .cores) (state .clock) supplied declines (state .left) in
-      course plan state (supplied ∷ []) (declines ∷ []) ≡ record { left = next .left; answers = take (plan .cores) (next .grants) }
-  unfolding course courseTo
+      let next : SlotEnd = slot setting (viewOf plan) (plan .cores) (state .clock) supplied declines (state .left) in
+      course setting plan state (supplied ∷ []) (declines ∷ []) ≡ record { left = next .left; answers = take (plan .cores) (next .grants) }
+  unfolding course courseBy courseTo
   course-one = rw (add-zero (state .clock))
 
   -- whose answers, laid down in eight bytes of 255, are all eight of the slot
   pub grants-whole :
-      let next : SlotEnd = slot (viewOf plan) (plan .cores) (state .clock) supplied declines (state .left) in
+      let next : SlotEnd = slot setting (viewOf plan) (plan .cores) (state .clock) supplied declines (state .left) in
       take (plan .cores) (next .grants) ++ drop (1 * plan .cores) (replicate 8 unsupplied) ≡ next .grants
   grants-whole =
-      let next = slot (viewOf plan) (plan .cores) (state .clock) supplied declines (state .left) in
-      rw (one-mul (plan .cores), ← (slot-past (viewOf plan) declines supplied (plan .cores) (state .clock) (state .left)))
+      let next = slot setting (viewOf plan) (plan .cores) (state .clock) supplied declines (state .left) in
+      rw (one-mul (plan .cores), ← (slot-past setting (viewOf plan) (plan .cores) (state .clock) supplied declines (state .left)))
       (take-append-drop (plan .cores) (next .grants))
 
-module _ (plan : Plan) (state : State) (supplied declines : ℕ) (o : Outcome) (e : said o ≡ outcome plan (standing state) 1 1 8) where
+module _ (setting : Setting) (plan : Plan) (state : State) (supplied declines : ℕ) (o : Outcome) (e : said o ≡ outcome plan (standing state) 1 1 8) where
   -- a refused step hands back the given state, and answers 255 eight times
-  pub step-refused : Refusal o → record { outcome = said o; state = standing state; grants = replicate 8 255 } ≡ stepped plan (standing state) supplied declines
+  pub step-refused : Refusal o → record { outcome = said o; state = standing state; grants = replicate 8 255 } ≡ stepped setting plan (standing state) supplied declines
   unfolding stepped ran outAfter
   step-refused h = rw (← e, refused-state o h, refused-room o h)
 
   -- and one that is done the slot's answers and counts, with the clock moved on
-  pub step-done : o ≡ Done → (next : Served) → slotEnd next ≡ slot (viewOf plan) (plan .cores) (state .clock) supplied declines (state .left) →
+  pub step-done : o ≡ Done → (next : Served) → slotEnd next ≡ slot setting (viewOf plan) (plan .cores) (state .clock) supplied declines (state .left) →
       record { outcome = said o; state = record { clock = state .clock + 1; left = next .left }; grants = next .grants } ≡
-      stepped plan (standing state) supplied declines
+      stepped setting plan (standing state) supplied declines
   unfolding stepped ran outAfter
   step-done h next l =
-      let one = course-one plan (standing state) supplied declines in
-      rw (← e, h, one, grants-whole plan (standing state) supplied declines, ← (ap (λ so. so .left) l), ← (ap (λ so. so .grants) l))
+      let one = course-one setting plan (standing state) supplied declines in
+      rw (← e, h, one, grants-whole setting plan (standing state) supplied declines, ← (ap (λ so. so .left) l), ← (ap (λ so. so .grants) l))

@@ -1,6 +1,7 @@
 -- How deep the walk goes on a sound plan: a child stands one deeper than its parent, nobody is chosen under a host of depth 8, and so eight levels
 -- are enough. Assumes nothing.
 use Prim.Native.Nat.{ℕ, zero, suc, _+_, _≤_}
+use mathlib.Core.Bool.{Bool}
 use mathlib.Core.List.{List}
 use mathlib.Core.Path.{_≡_, refl}
 use native.Mathlib.Nat.{zero-add, suc-add, add-suc}
@@ -21,7 +22,7 @@ pub data Stands (plan : Plan) : Parent → ℕ → Type 0 where
   at-depth : {h d : ℕ} → Depth plan h d → Stands plan (Under h) d
 
 -- what follows a choice is alike where the walks below the chosen host are
-follow-alike : (v : View) (f g : Parent → List ℕ → WalkEnd) (left : List ℕ) (w : Pick) →
+pub follow-alike : (v : View) (f g : Parent → List ℕ → WalkEnd) (left : List ℕ) (w : Pick) →
     ((i : ℕ) → w ≡ just i → f (Under i) (charge left i) ≡ g (Under i) (charge left i)) → follow v f left w ≡ follow v g left w
 unfolding follow
 follow-alike v f g left nobody alike = refl
@@ -33,35 +34,35 @@ module _ (plan : Plan) where
   child-depth at-top i is = top is
   child-depth (at-depth h) i is = under is h
 
-module _ (plan : Plan) (sound : Sound plan) (declines : ℕ) where
+module _ (plan : Plan) (sound : Sound plan) (passed : ℕ → Bool) where
   -- a chosen host stands one deeper than its parent
-  pub choice-stands : {x : Parent} {e : ℕ} → Stands plan x e → (left : List ℕ) (i : ℕ) → choose (viewOf plan) left declines x ≡ just i →
+  pub choice-stands : {x : Parent} {e : ℕ} → Stands plan x e → (left : List ℕ) (i : ℕ) → choose (viewOf plan) left passed x ≡ just i →
       Stands plan (Under i) (suc e)
-  choice-stands {x = x} s left i c = at-depth (child-depth plan s i (choice-under (viewOf plan) left declines x i c))
+  choice-stands {x = x} s left i c = at-depth (child-depth plan s i (choice-under (viewOf plan) left passed x i c))
 
   -- and at 8 at most, so under a parent that stands there nobody is chosen
-  pub deepest-nobody : {x : Parent} {e : ℕ} → Stands plan x e → 8 ≤ e → (left : List ℕ) → choose (viewOf plan) left declines x ≡ nobody
-  deepest-nobody {x = x} {e = e} s l left = go (choose (viewOf plan) left declines x) refl
+  pub deepest-nobody : {x : Parent} {e : ℕ} → Stands plan x e → 8 ≤ e → (left : List ℕ) → choose (viewOf plan) left passed x ≡ nobody
+  deepest-nobody {x = x} {e = e} s l left = go (choose (viewOf plan) left passed x) refl
     where
-      go : (w : Pick) → choose (viewOf plan) left declines x ≡ w → w ≡ nobody
+      go : (w : Pick) → choose (viewOf plan) left passed x ≡ w → w ≡ nobody
       go nobody c = refl
       go (just i) c =
-          let deep = child-depth plan s i (choice-under (viewOf plan) left declines x i c) in
-          absurd (omega (arith, sound .depths i (suc e) (choice-below (viewOf plan) left declines x i c) deep))
+          let deep = child-depth plan s i (choice-under (viewOf plan) left passed x i c) in
+          absurd (omega (arith, sound .depths i (suc e) (choice-below (viewOf plan) left passed x i c) deep))
 
   -- a walk with no level left ends as one that finds nobody
   walk-deepest : {x : Parent} {e : ℕ} → Stands plan x e → 8 ≤ e → (more : ℕ) (left : List ℕ) →
-      walk (viewOf plan) declines more x left ≡ walk (viewOf plan) declines 0 x left
+      walk (viewOf plan) passed more x left ≡ walk (viewOf plan) passed 0 x left
   unfolding walk follow
   walk-deepest s l zero left = refl
   walk-deepest s l (suc more) left = rw (deepest-nobody s l left)
 
   -- a walk that has a level for each depth below its parent gains nothing from more
   pub walk-enough : (levels more : ℕ) {x : Parent} {e : ℕ} → Stands plan x e → 8 ≤ e + levels → (left : List ℕ) →
-      walk (viewOf plan) declines (levels + more) x left ≡ walk (viewOf plan) declines levels x left
+      walk (viewOf plan) passed (levels + more) x left ≡ walk (viewOf plan) passed levels x left
   unfolding walk
   walk-enough zero more s l left = rw (zero-add more) (walk-deepest s (omega arith) more left)
   walk-enough (suc levels) more {x = x} {e = e} s l left =
       rw (suc-add levels more)
-      (follow-alike (viewOf plan) (walk (viewOf plan) declines (levels + more)) (walk (viewOf plan) declines levels) left (choose (viewOf plan) left declines x)
+      (follow-alike (viewOf plan) (walk (viewOf plan) passed (levels + more)) (walk (viewOf plan) passed levels) left (choose (viewOf plan) left passed x)
       (λ i c. walk-enough levels more (choice-stands s left i c) (omega (arith, suc-add e levels, add-suc e levels)) (charge left i)))

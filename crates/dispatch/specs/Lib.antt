@@ -1,5 +1,6 @@
 pub mod View
 pub mod Choice
+pub mod Passed
 pub mod Slot
 pub mod Run
 pub mod Reached

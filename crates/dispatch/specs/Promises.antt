@@ -1,6 +1,6 @@
 -- What is promised of the choice, of counts, of refusals, of steps and of runs. Why each holds is in proofs/. Assumes nothing.
 use Prim.Native.Nat.{ℕ, suc, _+_, _*_, _-_, _%_, _^_, _≤_, _<_}
-use mathlib.Core.Bool.{true, false}
+use mathlib.Core.Bool.{Bool, true, false}
 use mathlib.Core.List.{List, _++_}
 use mathlib.Core.Logic.{_↔_}
 use mathlib.Core.Path.{_≡_}
@@ -8,31 +8,47 @@ use lib.ListN.{length, getD}
 use Rattle.plans.specs.Plan.{There}
 use Rattle.plans.specs.Sound.{Sound}
 use Rattle.plans.specs.declared.Parent.{Parent}
-use Rattle.plans.specs.declared.Parent.the-variants.{Supply}
+use Rattle.plans.specs.declared.Parent.the-variants.{Supply, Node as Under}
 use Rattle.plans.specs.declared.Plan.{Plan}
 use Rattle.rules.specs.Fit.{Fit}
-use Rattle.dispatch.specs.View.{View, viewOf, servedC, bitOf}
+use Rattle.dispatch.specs.View.{View, viewOf, isLeaf, servedC, bitOf}
 use Rattle.dispatch.specs.Choice.{nobody, just, eligible, choose, Chosen}
+use Rattle.dispatch.specs.Passed.{passedOver}
 use Rattle.dispatch.specs.Slot.{SlotEnd, refilled, walk, slot}
 use Rattle.dispatch.specs.Run.{done, refused, said, Standing, RunEnd, zeroState, started, outcome, Course, courseTo, stepped}
+use Rattle.dispatch.specs.declared.Setting.{Setting}
+use Rattle.dispatch.specs.declared.Setting.the-variants.{Off, On}
 use Rattle.dispatch.specs.declared.Outcome.{Outcome}
 
 -- node i may be taken under x
-pub record May (v : View) (left : List ℕ) (declines : ℕ) (x : Parent) (i : ℕ) : Type 0 where
+pub record May (v : View) (left : List ℕ) (passed : ℕ → Bool) (x : Parent) (i : ℕ) : Type 0 where
   pub child : v .parent i ≡ x
   pub some : 0 < getD left i 0
-  pub willing : v .leaf i ≡ true → bitOf declines i ≡ false
+  pub willing : passed i ≡ false
 
--- 01: "among its children with slots left, leaves that decline passed over": just these may be taken
+-- 01: "among its children with slots left, .. passed over": just these may be taken
 abbrev pub MayExactly : Type 0
-MayExactly = (v : View) (left : List ℕ) (declines : ℕ) (x : Parent) (i : ℕ) → (eligible v left declines x i ≡ true) ↔ May v left declines x i
+MayExactly = (v : View) (left : List ℕ) (passed : ℕ → Bool) (x : Parent) (i : ℕ) → (eligible v left passed x i ≡ true) ↔ May v left passed x i
+
+-- Who is passed over, with no word of levels: a leaf exactly where it declines, a host with the switch off never, and a host with the switch on exactly where
+-- nobody is chosen under it.
+pub record Passed (setting : Setting) (plan : Plan) (left : List ℕ) (declines i : ℕ) : Type 0 where
+  pub leaf : isLeaf plan i ≡ true → (passedOver setting (viewOf plan) left declines i ≡ true) ↔ (bitOf declines i ≡ true)
+  pub off : isLeaf plan i ≡ false → setting ≡ Off → passedOver setting (viewOf plan) left declines i ≡ false
+  pub on : isLeaf plan i ≡ false → setting ≡ On →
+      (passedOver setting (viewOf plan) left declines i ≡ true) ↔
+      (choose (viewOf plan) left (passedOver setting (viewOf plan) left declines) (Under i) ≡ nobody)
+
+-- 01: "leaves that decline passed over"; 02, request 12: "the choice goes to the next sibling instead"
+abbrev pub PassedExactly : Type 0
+PassedExactly = (setting : Setting) (plan : Plan) → Sound plan → (left : List ℕ) (declines i : ℕ) → There plan i → Passed setting plan left declines i
 
 -- The choice is the one that document 01's sentence names, and there is nobody exactly when nobody may be taken.
 abbrev pub ChoiceExactly : Type 0
 ChoiceExactly =
-    (v : View) (left : List ℕ) (declines : ℕ) (x : Parent) →
-    ((i : ℕ) → (choose v left declines x ≡ just i) ↔ Chosen v left declines x i) ×
-    ((choose v left declines x ≡ nobody) ↔ ((j : ℕ) → j < v .size → eligible v left declines x j ≡ false))
+    (v : View) (left : List ℕ) (passed : ℕ → Bool) (x : Parent) →
+    ((i : ℕ) → (choose v left passed x ≡ just i) ↔ Chosen v left passed x i) ×
+    ((choose v left passed x ≡ nobody) ↔ ((j : ℕ) → j < v .size → eligible v left passed x j ≡ false))
 
 -- the counts after a refill at slot n, entry by entry: a node that is due has its served C, and whatever else is there, or past the last node, is as it was
 pub record RefilledAt (v : View) (n : ℕ) (left full : List ℕ) : Type 0 where
@@ -61,8 +77,8 @@ FreshExactly =
 -- The walk never runs out of levels on a sound plan: more levels change nothing.
 abbrev pub EightLevels : Type 0
 EightLevels =
-    (plan : Plan) → Sound plan → (declines more s : ℕ) (left : List ℕ) →
-    walk (viewOf plan) declines (8 + more) (Supply s) left ≡ walk (viewOf plan) declines 8 (Supply s) left
+    (plan : Plan) → Sound plan → (passed : ℕ → Bool) (more s : ℕ) (left : List ℕ) →
+    walk (viewOf plan) passed (8 + more) (Supply s) left ≡ walk (viewOf plan) passed 8 (Supply s) left
 
 -- plan value and state are fit
 pub record Ready (plan : Plan) (state : Standing) : Type 0 where
@@ -85,21 +101,22 @@ RefusalsExactly =
     ((outcome plan state k declines room ≡ refused 15) ↔ (Ready plan state × Roomy plan k declines room × (2 ^ 40 < state .clock + k))) ×
     ((outcome plan state k declines room ≡ done) ↔ (Ready plan state × Roomy plan k declines room × (state .clock + k ≤ 2 ^ 40)))
 
--- A run of a + b slots is a run of a followed by a run of b.
+-- Slots a + b in number, each with a setting of its own, are a of them followed by b.
 abbrev pub RunsJoin : Type 0
 RunsJoin =
-    (v : View) (cores n : ℕ) (supplies declines supplies' declines' left : List ℕ) → length supplies ≡ length declines →
-    let one : Course = courseTo v cores n supplies declines left (length supplies) in
-    let two : Course = courseTo v cores (n + length supplies) supplies' declines' (one .left) (length supplies') in
-    courseTo v cores n (supplies ++ supplies') (declines ++ declines') left (length supplies + length supplies') ≡
+    (v : View) (cores n : ℕ) (settings settings' : List Setting) (supplies declines supplies' declines' left : List ℕ) →
+    length settings ≡ length supplies → length supplies ≡ length declines →
+    let one : Course = courseTo v cores n settings supplies declines left (length supplies) in
+    let two : Course = courseTo v cores (n + length supplies) settings' supplies' declines' (one .left) (length supplies') in
+    courseTo v cores n (settings ++ settings') (supplies ++ supplies') (declines ++ declines') left (length supplies + length supplies') ≡
     record { left = two .left; answers = one .answers ++ two .answers }
 
 -- A step that is done is one slot: its eight answers are the slot's, its counts are those after it, and the clock is one later.
 abbrev pub StepIsSlot : Type 0
 StepIsSlot =
-    (plan : Plan) (state : Standing) (supplied declines : ℕ) → stepped plan state supplied declines .outcome ≡ done →
-    let next : SlotEnd = slot (viewOf plan) (plan .cores) (state .clock) supplied declines (state .left) in
-    stepped plan state supplied declines ≡
+    (setting : Setting) (plan : Plan) (state : Standing) (supplied declines : ℕ) → stepped setting plan state supplied declines .outcome ≡ done →
+    let next : SlotEnd = slot setting (viewOf plan) (plan .cores) (state .clock) supplied declines (state .left) in
+    stepped setting plan state supplied declines ≡
     record { outcome = done; state = record { clock = state .clock + 1; left = next .left }; grants = next .grants }
 
 -- two outcomes that say the same in document 01's terms are the same, so every equation allows one result
@@ -110,5 +127,5 @@ OneOutcome = (a b : Outcome) → said a ≡ said b → a ≡ b
 -- slot less after the walk, leaf or host, and whatever the walk finds below a host.
 abbrev pub TakenIsCharged : Type 0
 TakenIsCharged =
-    (plan : Plan) → Sound plan → (declines levels : ℕ) (x : Parent) (left : List ℕ) (i : ℕ) → choose (viewOf plan) left declines x ≡ just i →
-    getD (walk (viewOf plan) declines (suc levels) x left .left) i 0 ≡ getD left i 0 - 1
+    (plan : Plan) → Sound plan → (passed : ℕ → Bool) (levels : ℕ) (x : Parent) (left : List ℕ) (i : ℕ) → choose (viewOf plan) left passed x ≡ just i →
+    getD (walk (viewOf plan) passed (suc levels) x left .left) i 0 ≡ getD left i 0 - 1

@@ -5,6 +5,7 @@ use mathlib.Core.List.{List}
 use mathlib.Core.Path.{_≡_}
 use Rattle.plans.specs.declared.Plan.{Plan}
 use Rattle.dispatch.specs.Run.{done, Standing, started, ready, ran, stepped}
+use Rattle.dispatch.specs.declared.Setting.{Setting}
 
 -- 01: "16 (a left over the node's served C, a clock over 2^40, or a plan value that breaks any of 2 to 7 and 11 to 14)": none of these is so of the state
 -- that a fresh start gives,
@@ -14,11 +15,11 @@ FreshReady = (plan : Plan) → started plan .outcome ≡ done → ready plan (st
 -- that a run hands back,
 abbrev pub RunReady : Type 0
 RunReady =
-    (plan : Plan) (state : Standing) (supplies declines : List ℕ) (room : ℕ) →
-    let r = ran plan state supplies declines room in r .outcome ≡ done → ready plan (r .state) ≡ true
+    (setting : Setting) (plan : Plan) (state : Standing) (supplies declines : List ℕ) (room : ℕ) →
+    let r = ran setting plan state supplies declines room in r .outcome ≡ done → ready plan (r .state) ≡ true
 
 -- or that a step hands back
 abbrev pub StepReady : Type 0
 StepReady =
-    (plan : Plan) (state : Standing) (supplied declines : ℕ) →
-    let s = stepped plan state supplied declines in s .outcome ≡ done → ready plan (s .state) ≡ true
+    (setting : Setting) (plan : Plan) (state : Standing) (supplied declines : ℕ) →
+    let s = stepped setting plan state supplied declines in s .outcome ≡ done → ready plan (s .state) ≡ true

@@ -1,4 +1,4 @@
--- Fresh start, run and step, with their refusals: document 01, "Giving out slots". Assumes nothing.
+-- Fresh start, run and step, with their refusals: document 01, "Giving out slots", and 02, request 12: "Each step, run .. is given the setting". Assumes nothing.
 use Prim.Native.Nat.{ℕ, zero, suc, _+_, _*_, _^_}
 use mathlib.Core.Bool.{Bool, cond, _&&_}
 use mathlib.Core.List.{List, [], _∷_, _++_}
@@ -9,6 +9,8 @@ use Rattle.plans.specs.declared.Plan.{Plan}
 use Rattle.rules.specs.Check.{isFit}
 use Rattle.dispatch.specs.View.{View, viewOf, servedC}
 use Rattle.dispatch.specs.Slot.{slot, unsupplied}
+use Rattle.dispatch.specs.declared.Setting.{Setting}
+use Rattle.dispatch.specs.declared.Setting.the-variants.{Off}
 use Rattle.dispatch.specs.declared.State.{State}
 use Rattle.dispatch.specs.declared.Outcome.{Outcome}
 use Rattle.dispatch.specs.declared.Outcome.the-variants.{Done, Beyond, Unfit, Misfit}
@@ -100,17 +102,22 @@ pub record Course : Type 0 where
   pub left : List ℕ
   pub answers : List ℕ
 
--- the first i slots of a run from slot n on: slot n + i takes supply byte i and decline word i
-unfoldable pub courseTo : View → ℕ → ℕ → List ℕ → List ℕ → List ℕ → ℕ → Course
-courseTo v cores n supplies declines left zero = record { left = left; answers = [] }
-courseTo v cores n supplies declines left (suc i) =
-    let so = courseTo v cores n supplies declines left i in
-    let next = slot v cores (n + i) (getD supplies i 0) (getD declines i 0) (so .left) in
+-- the first i slots from slot n on: slot n + i takes setting i, supply byte i and decline word i
+unfoldable pub courseTo : View → ℕ → ℕ → List Setting → List ℕ → List ℕ → List ℕ → ℕ → Course
+courseTo v cores n settings supplies declines left zero = record { left = left; answers = [] }
+courseTo v cores n settings supplies declines left (suc i) =
+    let so = courseTo v cores n settings supplies declines left i in
+    let next = slot (getD settings i Off) v cores (n + i) (getD supplies i 0) (getD declines i 0) (so .left) in
     record { left = next .left; answers = so .answers ++ take cores (next .grants) }
 
-unfoldable pub course : Plan → Standing → List ℕ → List ℕ → Course
-course plan state supplies declines =
-    courseTo (viewOf plan) (plan .cores) (state .clock) supplies declines (state .left) (length supplies)
+-- slots from a state on, each with a setting of its own
+unfoldable pub courseBy : Plan → Standing → List Setting → List ℕ → List ℕ → Course
+courseBy plan state settings supplies declines =
+    courseTo (viewOf plan) (plan .cores) (state .clock) settings supplies declines (state .left) (length supplies)
+
+-- the slots of a run, which has one setting for all
+unfoldable pub course : Setting → Plan → Standing → List ℕ → List ℕ → Course
+course setting plan state supplies declines = courseBy plan state (replicate (length supplies) setting) supplies declines
 
 -- 01: "After a run the clock is n + k", and a refusal "hands back the given state"
 abbrev pub stateBy : Said → Standing → ℕ → Course → Standing
@@ -123,22 +130,22 @@ outBy done n c out = c .answers ++ drop n out
 outBy (refused r) n c out = out
 
 -- a run: its outcome, the state that it hands back, and the buffer afterwards
-unfoldable pub ran : Plan → Standing → List ℕ → List ℕ → ℕ → RunEnd
-ran plan state supplies declines room =
+unfoldable pub ran : Setting → Plan → Standing → List ℕ → List ℕ → ℕ → RunEnd
+ran setting plan state supplies declines room =
     let o = outcome plan state (length supplies) (length declines) room in
-    record { outcome = o; state = stateBy o state (length supplies) (course plan state supplies declines) }
+    record { outcome = o; state = stateBy o state (length supplies) (course setting plan state supplies declines) }
 
-unfoldable pub outAfter : Plan → Standing → List ℕ → List ℕ → List ℕ → List ℕ
-outAfter plan state supplies declines out =
+unfoldable pub outAfter : Setting → Plan → Standing → List ℕ → List ℕ → List ℕ → List ℕ
+outAfter setting plan state supplies declines out =
     outBy (outcome plan state (length supplies) (length declines) (length out)) (length supplies * plan .cores)
-    (course plan state supplies declines) out
+    (course setting plan state supplies declines) out
 
 -- 01: "A step is a run of one with eight answers by value, 255 past the last supply and all 255 in a refusal": a run of one into eight bytes of 255
-unfoldable pub stepped : Plan → Standing → ℕ → ℕ → StepEnd
-stepped plan state supplied declines =
-    let run = ran plan state (supplied ∷ []) (declines ∷ []) 8 in
+unfoldable pub stepped : Setting → Plan → Standing → ℕ → ℕ → StepEnd
+stepped setting plan state supplied declines =
+    let run = ran setting plan state (supplied ∷ []) (declines ∷ []) 8 in
     record {
       outcome = run .outcome;
       state = run .state;
-      grants = outAfter plan state (supplied ∷ []) (declines ∷ []) (replicate 8 unsupplied);
+      grants = outAfter setting plan state (supplied ∷ []) (declines ∷ []) (replicate 8 unsupplied);
     }

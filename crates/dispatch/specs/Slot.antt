@@ -1,4 +1,5 @@
--- One slot: refill, then each supplied core's walk from its supply through hosts to a leaf. Document 01, "Giving out slots". Assumes nothing.
+-- One slot: refill, then each supplied core's walk from its supply through hosts to a leaf. Document 01, "Giving out slots"; `passed` tells who is passed over,
+-- in all of the slot (Passed.antt). Assumes nothing.
 use Prim.Native.Nat.{ℕ, zero, suc, _-_, _%_}
 use mathlib.Core.Bool.{Bool, cond}
 use mathlib.Core.List.{List}
@@ -8,6 +9,8 @@ use Rattle.plans.specs.declared.Parent.{Parent}
 use Rattle.plans.specs.declared.Parent.the-variants.{Supply, Node as Under}
 use Rattle.dispatch.specs.View.{View, bitOf}
 use Rattle.dispatch.specs.Choice.{Pick, nobody, just, choose}
+use Rattle.dispatch.specs.Passed.{passedOver}
+use Rattle.dispatch.specs.declared.Setting.{Setting}
 use Rattle.dispatch.specs.declared.Walked.{Walked}
 use Rattle.dispatch.specs.declared.Served.{Served}
 
@@ -54,9 +57,9 @@ follow v onward left (just i) =
     cond (v .leaf i) (record { grant = i; left = charge left i }) (onward (Under i) (charge left i))
 
 -- 01: "so the walk goes down at most eight levels": the walk from parent x with so many levels to go
-unfoldable pub walk : View → ℕ → ℕ → Parent → List ℕ → WalkEnd
-walk v declines zero x left = record { grant = idle; left = left }
-walk v declines (suc levels) x left = follow v (walk v declines levels) left (choose v left declines x)
+unfoldable pub walk : View → (ℕ → Bool) → ℕ → Parent → List ℕ → WalkEnd
+walk v passed zero x left = record { grant = idle; left = left }
+walk v passed (suc levels) x left = follow v (walk v passed levels) left (choose v left passed x)
 
 -- where a slot ends: an answer for each of eight cores, and the counts
 pub record SlotEnd : Type 0 where
@@ -71,15 +74,19 @@ slotEnd so = record { grants = so .grants; left = so .left }
 unfoldable pub granting : SlotEnd → ℕ → WalkEnd → SlotEnd
 granting so s w = record { grants = set (so .grants) s (w .grant); left = w .left }
 
-unfoldable pub serveCore : View → ℕ → ℕ → SlotEnd → ℕ → SlotEnd
-serveCore v supplied declines so s =
-    cond (bitOf supplied s) (granting so s (walk v declines 8 (Supply s) (so .left))) so
+unfoldable pub serveCore : View → ℕ → (ℕ → Bool) → SlotEnd → ℕ → SlotEnd
+serveCore v supplied passed so s = cond (bitOf supplied s) (granting so s (walk v passed 8 (Supply s) (so .left))) so
 
-unfoldable pub serveTo : View → ℕ → ℕ → SlotEnd → ℕ → SlotEnd
-serveTo v supplied declines so zero = so
-serveTo v supplied declines so (suc k) = serveCore v supplied declines (serveTo v supplied declines so k) k
+unfoldable pub serveTo : View → ℕ → (ℕ → Bool) → SlotEnd → ℕ → SlotEnd
+serveTo v supplied passed so zero = so
+serveTo v supplied passed so (suc k) = serveCore v supplied passed (serveTo v supplied passed so k) k
+
+-- where a slot begins, with these counts after its refill
+abbrev pub slotStart : List ℕ → SlotEnd
+slotStart full = record { grants = replicate 8 unsupplied; left = full }
 
 -- slot n, cores in supply order: the answers, 255 where a core is not supplied, and the counts after it
-unfoldable pub slot : View → ℕ → ℕ → ℕ → ℕ → List ℕ → SlotEnd
-slot v cores n supplied declines left =
-    serveTo v supplied declines (record { grants = replicate 8 unsupplied; left = refilled v n left }) cores
+unfoldable pub slot : Setting → View → ℕ → ℕ → ℕ → ℕ → List ℕ → SlotEnd
+slot setting v cores n supplied declines left =
+    let full = refilled v n left in
+    serveTo v supplied (passedOver setting v full declines) (slotStart full) cores

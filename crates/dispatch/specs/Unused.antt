@@ -1,5 +1,5 @@
 -- What giving out slots ignores: document 01, "Giving out slots" and "Refusal numbers". Two calls that differ in unused entries of the plan value, in entries
--- past the last node, and in bits that name no supply or no leaf, end alike. Why each holds is in proofs/. Assumes nothing.
+-- past the last node, and in bits that name no supply or no leaf, end alike, under either setting. Why each holds is in proofs/. Assumes nothing.
 use Prim.Native.Nat.{ℕ, _≤_, _<_}
 use mathlib.Core.Bool.{true}
 use mathlib.Core.List.{List}
@@ -10,6 +10,7 @@ use Rattle.plans.specs.Promises.{Agree}
 use Rattle.plans.specs.declared.Plan.{Plan}
 use Rattle.dispatch.specs.View.{isLeaf, bitOf}
 use Rattle.dispatch.specs.Run.{Standing, RunEnd, StepEnd, started, ran, outAfter, stepped}
+use Rattle.dispatch.specs.declared.Setting.{Setting}
 
 -- two lists that are equally long and the same below k
 pub record SameBelow (k : ℕ) (a b : List ℕ) : Type 0 where
@@ -64,25 +65,26 @@ FreshIgnores = (a b : Plan) → Agree a b → started a ≡ started b
 -- neither its end nor its buffer
 abbrev pub RunIgnores : Type 0
 RunIgnores =
-    (a b : Asked) → SameAsked a b → (out : List ℕ) →
-    SameRunEnd (a .plan) (ran (a .plan) (a .state) (a .supplies) (a .declines) (length out)) (ran (b .plan) (b .state) (b .supplies) (b .declines) (length out)) ×
-    (outAfter (a .plan) (a .state) (a .supplies) (a .declines) out ≡ outAfter (b .plan) (b .state) (b .supplies) (b .declines) out)
+    (setting : Setting) (a b : Asked) → SameAsked a b → (out : List ℕ) →
+    SameRunEnd (a .plan) (ran setting (a .plan) (a .state) (a .supplies) (a .declines) (length out))
+    (ran setting (b .plan) (b .state) (b .supplies) (b .declines) (length out)) ×
+    (outAfter setting (a .plan) (a .state) (a .supplies) (a .declines) out ≡ outAfter setting (b .plan) (b .state) (b .supplies) (b .declines) out)
 
 -- and so with a step
 abbrev pub StepIgnores : Type 0
 StepIgnores =
-    (a b : Plan) → Agree a b → (s t : Standing) → SameState a s t →
+    (setting : Setting) (a b : Plan) → Agree a b → (s t : Standing) → SameState a s t →
     (supplied supplied' declines declines' : ℕ) → SameSupply a supplied supplied' → SameDeclines a declines declines' →
-    SameStepEnd a (stepped a s supplied declines) (stepped b t supplied' declines')
+    SameStepEnd a (stepped setting a s supplied declines) (stepped setting b t supplied' declines')
 
 -- 01: "Entries past the last node are .. otherwise ignored and handed back": by a run, done or refused
 abbrev pub RunKeepsPast : Type 0
 RunKeepsPast =
-    (plan : Plan) (state : Standing) (supplies declines : List ℕ) (room i : ℕ) → plan .size ≤ i →
-    getD (ran plan state supplies declines room .state .left) i 0 ≡ getD (state .left) i 0
+    (setting : Setting) (plan : Plan) (state : Standing) (supplies declines : List ℕ) (room i : ℕ) → plan .size ≤ i →
+    getD (ran setting plan state supplies declines room .state .left) i 0 ≡ getD (state .left) i 0
 
 -- and by a step
 abbrev pub StepKeepsPast : Type 0
 StepKeepsPast =
-    (plan : Plan) (state : Standing) (supplied declines i : ℕ) → plan .size ≤ i →
-    getD (stepped plan state supplied declines .state .left) i 0 ≡ getD (state .left) i 0
+    (setting : Setting) (plan : Plan) (state : Standing) (supplied declines i : ℕ) → plan .size ≤ i →
+    getD (stepped setting plan state supplied declines .state .left) i 0 ≡ getD (state .left) i 0

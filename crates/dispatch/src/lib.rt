@@ -5,11 +5,18 @@ ghost use lib.ListN.{length};
 ghost use Rattle.dispatch.specs.Run.{standing, runEnd, stepEnd, started, ran, outAfter, stepped};
 
 mod counts;
+mod hosts;
 mod picks;
 mod runs;
 mod walks;
 
 use plans::Plan;
+
+// The switch: a slot that nobody under a host takes is wasted, or goes to the next sibling. Document 02, request 12.
+pub enum Setting {
+    Off,
+    On,
+}
 
 // The clock, and for each node the slots left in its current served period.
 pub struct State {
@@ -82,24 +89,31 @@ pub fn fresh(plan: Plan) -> Ran
     }
 }
 
-// A run of as many slots as there are supply bytes; each takes its decline word, and its answers go to `out`, slot by slot.
-pub fn run(plan: Plan, state: State, supplies: &[u8], declines: &[u64], out: &mut [u8]) -> Ran
-    ensures result { λ r. ⌜ runEnd r ≡ ran plan (standing state) (now (supplies .entry)) (now (declines .entry)) (length (now (out .entry))) ⌝ }
-    ensures buffer { λ r. ⌜ now (out .exit) ≡ outAfter plan (standing state) (now (supplies .entry)) (now (declines .entry)) (now (out .entry)) ⌝ }
+// A run of as many slots as there are supply bytes, all with one setting; each takes its decline word, and its answers go to `out`, slot by slot.
+pub fn run(
+    setting: Setting,
+    plan: Plan,
+    state: State,
+    supplies: &[u8],
+    declines: &[u64],
+    out: &mut [u8],
+) -> Ran
+    ensures result { λ r. ⌜ runEnd r ≡ ran setting plan (standing state) (now (supplies .entry)) (now (declines .entry)) (length (now (out .entry))) ⌝ }
+    ensures buffer { λ r. ⌜ now (out .exit) ≡ outAfter setting plan (standing state) (now (supplies .entry)) (now (declines .entry)) (now (out .entry)) ⌝ }
 {
     let outcome = runs::outcome_of(plan, state, supplies.len(), declines.len(), out.len());
     let Outcome::Done = outcome else {
         return Ran { outcome, state };
     };
     let clock = state.clock + supplies.len() as u64;
-    let left = runs::give(plan, state, supplies, declines, out);
+    let left = runs::give(setting, plan, state, supplies, declines, out);
     let state = State { clock, left };
     Ran { outcome, state }
 }
 
 // A run of one slot, with its answers by value.
-pub fn step(plan: Plan, state: State, supplied: u8, declines: u64) -> Stepped
-    ensures { λ r. ⌜ stepEnd r ≡ stepped plan (standing state) supplied declines ⌝ }
+pub fn step(setting: Setting, plan: Plan, state: State, supplied: u8, declines: u64) -> Stepped
+    ensures { λ r. ⌜ stepEnd r ≡ stepped setting plan (standing state) supplied declines ⌝ }
 {
     let outcome = runs::outcome_of(plan, state, 1, 1, 8);
     let Outcome::Done = outcome else {
@@ -112,7 +126,7 @@ pub fn step(plan: Plan, state: State, supplied: u8, declines: u64) -> Stepped
     };
     let clock = state.clock;
     let before = state.left;
-    let served = walks::serve(plan, clock, supplied, declines, before);
+    let served = walks::serve(setting, plan, clock, supplied, declines, before);
     let grants = served.grants;
     let left = served.left;
     let state = State {

@@ -1,22 +1,23 @@
-// The choice among a parent's children.
+// The choice among a parent's children. Two words tell who is passed over: `declines` by its bits of leaves, `takers` by its bits of hosts.
 ghost use mathlib.Core.Path.{_≡_};
 ghost use Prim.Native.Nat.{_<_, _≤_};
 ghost use Rattle.dispatch.specs.View.{bitOf, servedT, viewOf};
-ghost use Rattle.dispatch.specs.Choice.{picked, choose, consider, eligible, prefer};
+ghost use Rattle.dispatch.specs.Choice.{picked, choose, consider, eligible, prefer, takes as takesBy};
+ghost use Rattle.dispatch.specs.Passed.{told};
 use crate::Choice;
 use plans::Parent;
 use plans::Plan;
 
 // The smallest served T, then the lowest number.
-pub fn choice(plan: Plan, left: [u16; 64], declines: u64, x: Parent) -> Choice
+pub fn choice(plan: Plan, left: [u16; 64], declines: u64, takers: u64, x: Parent) -> Choice
     requires { ⌜ plan .size ≤ 64 ⌝ }
-    ensures { λ r. ⌜ picked r ≡ choose (viewOf plan) left declines x ⌝ }
+    ensures { λ r. ⌜ picked r ≡ choose (viewOf plan) left (told (viewOf plan) declines takers) x ⌝ }
 {
     let size = plan.size;
     let mut best = Choice::Nobody;
     let mut i: usize = 0;
     while i < size {
-        best = considered(plan, left, declines, x, best, i);
+        best = considered(plan, left, declines, takers, x, best, i);
         i += 1;
     }
     best
@@ -27,14 +28,15 @@ fn considered(
     plan: Plan,
     left: [u16; 64],
     declines: u64,
+    takers: u64,
     x: Parent,
     best: Choice,
     i: usize,
 ) -> Choice
     requires { ⌜ i < 64 ⌝ }
-    ensures { λ r. ⌜ picked r ≡ consider (viewOf plan) left declines x (picked best) i ⌝ }
+    ensures { λ r. ⌜ picked r ≡ consider (viewOf plan) left (told (viewOf plan) declines takers) x (picked best) i ⌝ }
 {
-    if is_eligible(plan, left, declines, x, i) {
+    if is_eligible(plan, left, declines, takers, x, i) {
         preferred(plan, best, i)
     } else {
         best
@@ -62,19 +64,33 @@ fn period(plan: Plan, i: usize) -> u16
     plans::node_at(plan, i).served.t
 }
 
-// A child with slots left, unless it is a leaf that declines.
-fn is_eligible(plan: Plan, left: [u16; 64], declines: u64, x: Parent, i: usize) -> bool
+fn is_eligible(
+    plan: Plan,
+    left: [u16; 64],
+    declines: u64,
+    takers: u64,
+    x: Parent,
+    i: usize,
+) -> bool
     requires { ⌜ i < 64 ⌝ }
-    ensures { λ r. ⌜ r ≡ eligible (viewOf plan) left declines x i ⌝ }
+    ensures { λ r. ⌜ r ≡ eligible (viewOf plan) left (told (viewOf plan) declines takers) x i ⌝ }
 {
     if !plans::is_child(plan, x, i) {
         return false;
     }
+    takes(plan, left, declines, takers, i)
+}
+
+// Whether node i has slots left and is not passed over.
+pub fn takes(plan: Plan, left: [u16; 64], declines: u64, takers: u64, i: usize) -> bool
+    requires { ⌜ i < 64 ⌝ }
+    ensures { λ r. ⌜ r ≡ takesBy left (told (viewOf plan) declines takers) i ⌝ }
+{
     if left[i] == 0 {
         return false;
     }
     if plans::is_host(plan, i) {
-        return true;
+        return is_set(takers, i);
     }
     !is_set(declines, i)
 }

@@ -8,6 +8,7 @@ ghost use lib.Seq.{paste};
 ghost use Rattle.plans.specs.Sound.{sound};
 ghost use Rattle.dispatch.specs.Run.{said, standing, course, outcome, ready, roomy, inTime};
 use crate::Outcome;
+use crate::Setting;
 use crate::State;
 use plans::Plan;
 
@@ -64,6 +65,7 @@ fn is_in_time(clock: u64, k: usize) -> bool
 
 // The slots of a run whose inputs fit: the counts after them, and their answers at the front of `out`.
 pub fn give(
+    setting: Setting,
     plan: Plan,
     state: State,
     supplies: &[u8],
@@ -73,9 +75,9 @@ pub fn give(
     requires { ⌜ (sound plan ≡ true) ×
         ((length (now supplies) ≡ length (now declines)) ×
         ((length (now supplies) * plan .cores ≤ length (now out)) × (state .clock + length (now supplies) ≤ 2 ^ 40))) ⌝ }
-    ensures result { λ r. ⌜ r ≡ course plan (standing state) (now (supplies .entry)) (now (declines .entry)) .left ⌝ }
+    ensures result { λ r. ⌜ r ≡ course setting plan (standing state) (now (supplies .entry)) (now (declines .entry)) .left ⌝ }
     ensures buffer { λ r. ⌜ now (out .exit) ≡
-        course plan (standing state) (now (supplies .entry)) (now (declines .entry)) .answers ++
+        course setting plan (standing state) (now (supplies .entry)) (now (declines .entry)) .answers ++
         drop (length (now (supplies .entry)) * plan .cores) (now (out .entry)) ⌝ }
 {
     let k = supplies.len();
@@ -84,7 +86,14 @@ pub fn give(
     let mut left = state.left;
     let mut i: usize = 0;
     while i < k {
-        let served = crate::walks::serve(plan, clock + i as u64, supplies[i], declines[i], left);
+        let served = crate::walks::serve(
+            setting,
+            plan,
+            clock + i as u64,
+            supplies[i],
+            declines[i],
+            left,
+        );
         let grants = served.grants;
         put(grants, cores, i * cores, out);
         left = served.left;

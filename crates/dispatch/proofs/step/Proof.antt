@@ -17,12 +17,12 @@ returns c = search step-refused
 serve-requires : tie.Need-serve-requires
 serve-requires c κs = search done-sound
 
-add-t13 : tie.Need-add-t13
-add-t13 c = search (needs, done-fits)
+add-t14 : tie.Need-add-t14
+add-t14 c = search (needs, done-fits)
 
 returns-2 : tie.Need-returns-2
 returns-2 c = search step-done
 
 pub step-spec : {M : Type 1} → statement M
 step-spec =
-    tie.close (tie.spec outcome-of-requires enum-told returns serve-requires add-t13 returns-2)
+    tie.close (tie.spec outcome-of-requires enum-told returns serve-requires add-t14 returns-2)

@@ -5,14 +5,16 @@ use borrow.Author.Needs.{needs}
 use Rattle.dispatch.proofs.Choosing.{choose-none, choose-more, choose-done}
 use Rattle.dispatch.specs.View.{viewOf}
 use Rattle.dispatch.specs.Choice.{picked, chooseTo}
+use Rattle.dispatch.specs.Passed.{told}
 use Rattle.dispatch.proofs.picks.choice.Statement.{statement}
 use Rattle.dispatch.proofs.picks.choice.Tie as tie
 
 abbrev Inv-loop : tie.InvT-loop
-Inv-loop plan left declines x size best₀ i₀ best i = (i ≤ size) × (picked best ≡ chooseTo (viewOf plan) left declines x i)
+Inv-loop plan left declines takers x size best₀ i₀ best i =
+    (i ≤ size) × (picked best ≡ chooseTo (viewOf plan) left (told (viewOf plan) declines takers) x i)
 
 abbrev μ-loop : tie.MeasureT-loop
-μ-loop plan left declines x size best₀ i₀ best i = size - i
+μ-loop plan left declines takers x size best₀ i₀ best i = size - i
 
 loop-holds : tie.Need-loop-holds Inv-loop μ-loop
 loop-holds c = search (needs, choose-none)

@@ -1,5 +1,6 @@
 -- `dispatch::runs::give` meets its contract. The invariant: the counts and the buffer after the slots passed. Assumes nothing.
 use Prim.Native.Nat.{_-_, _≤_}
+use lib.ListN.{replicate}
 use borrow.Author.Needs.{needs}
 use Rattle.dispatch.proofs.Counting.{cores-most}
 use Rattle.dispatch.proofs.Running.{
@@ -7,7 +8,7 @@ use Rattle.dispatch.proofs.Running.{
   give-none,
   give-length,
   give-place,
-  give-more,
+  give-one,
   give-counts,
   give-buffer,
   second-place,
@@ -18,10 +19,11 @@ use Rattle.dispatch.proofs.runs.give.Statement.{statement}
 use Rattle.dispatch.proofs.runs.give.Tie as tie
 
 abbrev Inv-loop : tie.InvT-loop
-Inv-loop plan supplies declines out₀ k clock cores left₀ i₀ out left i = (i ≤ k) × Given (viewOf plan) cores clock supplies declines left₀ out₀ left out i
+Inv-loop setting plan supplies declines out₀ k clock cores left₀ i₀ out left i =
+    (i ≤ k) × Given (viewOf plan) cores clock (replicate k setting) supplies declines left₀ out₀ left out i
 
 abbrev μ-loop : tie.MeasureT-loop
-μ-loop plan supplies declines out₀ k clock cores left₀ i₀ out left i = k - i
+μ-loop setting plan supplies declines out₀ k clock cores left₀ i₀ out left i = k - i
 
 loop-holds : tie.Need-loop-holds Inv-loop μ-loop
 loop-holds c = search (needs, give-none)
@@ -60,7 +62,7 @@ loop-again c =
     let here = serve .before .before .before .before in
     let entry = here .before .before .before .before .before in (
       search needs,
-      give-more _ _ _ _ _ _ _ (cores-most _ (entry .pre .0)) _ _ _ (here .loop .inv .1) _ (serve .serve .ensures) _ (put .put .ensures),
+      give-one _ _ _ _ _ _ _ _ (cores-most _ (entry .pre .0)) _ _ _ (here .loop .inv .1) (search needs) _ (serve .serve .ensures) _ (put .put .ensures),
     )
 
 same-length : tie.Need-same-length Inv-loop μ-loop

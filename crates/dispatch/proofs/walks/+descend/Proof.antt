@@ -15,7 +15,7 @@ use Rattle.dispatch.proofs.walks.+descend.{statement}
 use Rattle.dispatch.proofs.walks.+descend.Tie.{close}
 
 abbrev μ : Measures 0 kinds.ps ℕ
-μ κs a = a .1 .1 .0
+μ κs a = a .1 .1 .1 .0
 
 module _ (t : ℕ) where
   abbrev at : In 0 kinds.ps
@@ -54,14 +54,14 @@ module _ (t : ℕ) where
   sub-descend : lts.Need-sub-descend calls at descend.Post
   sub-descend c = search needs
 
-  cast-t14 : lts.Need-cast-t14 calls at descend.Post
-  cast-t14 c = search taken-byte
+  cast-t15 : lts.Need-cast-t15 calls at descend.Post
+  cast-t15 c = search taken-byte
 
   descend-requires : lts.Need-descend-requires calls at descend.Post
   descend-requires c κs = search needs
 
-  cast-t16 : lts.Need-cast-t16 calls at descend.Post
-  cast-t16 c = search taken-byte
+  cast-t17 : lts.Need-cast-t17 calls at descend.Post
+  cast-t17 c = search taken-byte
 
   returns-2 : lts.Need-returns-2 calls at descend.Post
   returns-2 c = search walk-idle
@@ -77,5 +77,5 @@ pub +descend-spec : {M : Type 1} → statement M
     close μ
     (λ t.
     lts.spec (calls t) (at t) descend.Post (returns t) (choice-requires t) (enum-told t) (enum-known-i t)
-    (charge-one-requires t) (is-host-requires t) (sub-descend t) (cast-t14 t) (descend-requires t) (cast-t16 t)
+    (charge-one-requires t) (is-host-requires t) (sub-descend t) (cast-t15 t) (descend-requires t) (cast-t17 t)
     (returns-2 t) (returns-3 t) (returns-4 t))

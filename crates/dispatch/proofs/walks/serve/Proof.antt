@@ -5,18 +5,23 @@ use borrow.Author.Needs.{needs}
 use Rattle.dispatch.proofs.Counting.{core-place}
 use Rattle.dispatch.proofs.Walking.{serve-none, serve-more, serve-done}
 use Rattle.dispatch.specs.View.{viewOf}
+use Rattle.dispatch.specs.Passed.{told}
 use Rattle.dispatch.specs.Slot.{slotEnd, serveTo}
 use Rattle.dispatch.proofs.walks.serve.Statement.{statement}
 use Rattle.dispatch.proofs.walks.serve.Tie as tie
 
 abbrev Inv-loop : tie.InvT-loop
-Inv-loop plan n supplied declines cores so₀ s₀ so s = (s ≤ cores) × (slotEnd so ≡ serveTo (viewOf plan) supplied declines (slotEnd so₀) s)
+Inv-loop plan n supplied declines cores takers so₀ s₀ so s =
+    (s ≤ cores) × (slotEnd so ≡ serveTo (viewOf plan) supplied (told (viewOf plan) declines takers) (slotEnd so₀) s)
 
 abbrev μ-loop : tie.MeasureT-loop
-μ-loop plan n supplied declines cores so₀ s₀ so s = cores - s
+μ-loop plan n supplied declines cores takers so₀ s₀ so s = cores - s
 
 refill-requires : tie.Need-refill-requires Inv-loop μ-loop
 refill-requires c κs = search needs
+
+takers-requires : tie.Need-takers-requires Inv-loop μ-loop
+takers-requires c κs = search needs
 
 loop-holds : tie.Need-loop-holds Inv-loop μ-loop
 loop-holds c = search (needs, serve-none)
@@ -43,6 +48,7 @@ serve-spec =
     Inv-loop
     μ-loop
     refill-requires
+    takers-requires
     loop-holds
     serve-core-requires
     add-s

@@ -11,8 +11,8 @@ is-set-requires c κs = search needs
 returns : tie.Need-returns
 returns c = search (core-passed, not-true)
 
-cast-t13 : tie.Need-cast-t13
-cast-t13 c = search needs
+cast-t14 : tie.Need-cast-t14
+cast-t14 c = search needs
 
 descend-requires : tie.Need-descend-requires
 descend-requires c κs = search needs
@@ -26,4 +26,4 @@ returns-2 c = search (core-served, not-false)
 pub serve-core-spec : {M : Type 1} → statement M
 serve-core-spec =
     tie.close
-    (tie.spec is-set-requires returns cast-t13 descend-requires array-write-grants returns-2)
+    (tie.spec is-set-requires returns cast-t14 descend-requires array-write-grants returns-2)

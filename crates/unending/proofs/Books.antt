@@ -39,18 +39,18 @@ parent-decided a b = go (same a b) refl
     go true e = yes (same-equal a b e)
     go false e = no (λ h. true≢false (sym (same-self a b h) ∙ e))
 
-module _ (plan : Plan) (supplied declines : ℕ) (start : List ℕ) where
+module _ (plan : Plan) (supplied : ℕ) (passed : ℕ → Bool) (start : List ℕ) where
   -- node i took a slot of its parent
   pub record Took (k : ℕ) (now : List ℕ) (i : ℕ) : Type 0 where
     pub by-one : getD start i 0 ≡ suc (getD now i 0)
-    pub chosen : choose (viewOf plan) start declines (parentOf plan i) ≡ just i
+    pub chosen : choose (viewOf plan) start passed (parentOf plan i) ≡ just i
     pub opened : Opened supplied start k now (parentOf plan i)
 
   -- the books with the first k cores served, but for some parents whose choice has yet to fall
   pub record Books (k : ℕ) (but : Parent → Type 0) (now : List ℕ) : Type 0 where
     pub no-more : (i : ℕ) → getD now i 0 ≤ getD start i 0
     pub took : (i : ℕ) → Fell start now i → Took k now i
-    pub gave : (x : Parent) → (but x → ⊥) → Opened supplied start k now x → (i : ℕ) → choose (viewOf plan) start declines x ≡ just i → Fell start now i
+    pub gave : (x : Parent) → (but x → ⊥) → Opened supplied start k now x → (i : ℕ) → choose (viewOf plan) start passed x ≡ just i → Fell start now i
 
   -- the books while a walk stands at parent x, whose children are untouched
   pub record Pending (k : ℕ) (x : Parent) (now : List ℕ) : Type 0 where

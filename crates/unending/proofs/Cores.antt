@@ -22,18 +22,18 @@ use Rattle.dispatch.specs.Slot.{WalkEnd, SlotEnd, walk, granting, serveCore, se
 use Rattle.unending.proofs.Books.{Fell, Opened, opened-more, Books, Pending, shut-untouched}
 use Rattle.unending.proofs.Walks.{Walks, walk-keeps}
 
-module _ (plan : Plan) (supplied declines : ℕ) (start : List ℕ) where
+module _ (plan : Plan) (supplied : ℕ) (passed : ℕ → Bool) (start : List ℕ) where
   -- where the first k cores have brought the counts and the answers
   pub record Cores (k : ℕ) (so : SlotEnd) : Type 0 where
-    pub books : Books plan supplied declines start k (λ y. ⊥) (so .left)
+    pub books : Books plan supplied passed start k (λ y. ⊥) (so .left)
     pub answered-fell : (i s : ℕ) → i < plan .size → s < k → getD (so .grants) s unsupplied ≡ i → Fell start (so .left) i
     pub fell-answered : (i : ℕ) → isLeaf plan i ≡ true → Fell start (so .left) i → (s : ℕ) × (s < k) × (getD (so .grants) s unsupplied ≡ i)
     pub later : (s : ℕ) → k ≤ s → getD (so .grants) s unsupplied ≡ unsupplied
     pub eight : length (so .grants) ≡ 8
 
-module _ (plan : Plan) (sound : Sound plan) (supplied declines : ℕ) (start : List ℕ) where
+module _ (plan : Plan) (sound : Sound plan) (supplied : ℕ) (passed : ℕ → Bool) (start : List ℕ) where
   -- before the first core nothing has fallen
-  cores-none : Cores plan supplied declines start 0 (record { grants = replicate 8 unsupplied; left = start })
+  cores-none : Cores plan supplied passed start 0 (record { grants = replicate 8 unsupplied; left = start })
   cores-none =
       record {
         books =
@@ -61,10 +61,10 @@ module _ (plan : Plan) (sound : Sound plan) (supplied declines : ℕ) (start : L
       go (no different) = (omega arith, o .1)
   opened-fewer k now (Under h) other o = o
 
-  module _ (k : ℕ) (so : SlotEnd) (at : Cores plan supplied declines start k so) where
+  module _ (k : ℕ) (so : SlotEnd) (at : Cores plan supplied passed start k so) where
     -- the same books, as those of one core more: what was opened stays so
     one-more : (but : Parent → Type 0) → ((x : Parent) → (but x → ⊥) → Opened supplied start (suc k) (so .left) x → Opened supplied start k (so .left) x) →
-        Books plan supplied declines start (suc k) but (so .left)
+        Books plan supplied passed start (suc k) but (so .left)
     one-more but before =
         record {
           no-more = at .books .no-more;
@@ -79,7 +79,7 @@ module _ (plan : Plan) (sound : Sound plan) (supplied declines : ℕ) (start : L
         }
 
     -- a core that is not supplied changes nothing
-    core-passed : bitOf supplied k ≡ false → Cores plan supplied declines start (suc k) so
+    core-passed : bitOf supplied k ≡ false → Cores plan supplied passed start (suc k) so
     core-passed off =
         record {
           books = one-more (λ y. ⊥) (λ x _. before x);
@@ -97,16 +97,16 @@ module _ (plan : Plan) (sound : Sound plan) (supplied declines : ℕ) (start : L
         answered i s l below e (no other) = at .answered-fell i s l (omega arith) e
 
     -- a supplied core's walk begins with its supply's children untouched
-    core-pending : bitOf supplied k ≡ true → Pending plan supplied declines start (suc k) (Supply k) (so .left)
+    core-pending : bitOf supplied k ≡ true → Pending plan supplied passed start (suc k) (Supply k) (so .left)
     core-pending on =
         record {
           books = one-more (λ y. y ≡ Supply k) (opened-fewer k (so .left));
           opened = (omega arith, on);
-          untouched = λ i l up. shut-untouched plan supplied declines start k (λ y. ⊥) (so .left) (at .books) (Supply k) (λ o. omega arith) i up;
+          untouched = λ i l up. shut-untouched plan supplied passed start k (λ y. ⊥) (so .left) (at .books) (Supply k) (λ o. omega arith) i up;
         }
 
     -- and when it ends its grant is the core's answer
-    core-granted : k < 8 → (w : WalkEnd) → Walks plan supplied declines start (suc k) (so .left) w → Cores plan supplied declines start (suc k) (granting so k w)
+    core-granted : k < 8 → (w : WalkEnd) → Walks plan supplied passed start (suc k) (so .left) w → Cores plan supplied passed start (suc k) (granting so k w)
     unfolding granting
     core-granted below w ends =
         record {
@@ -135,21 +135,21 @@ module _ (plan : Plan) (sound : Sound plan) (supplied declines : ℕ) (start : L
         fell i leaf (inr e) = (k, omega arith, here ∙ e)
 
     -- so each core keeps what the cores before it have brought
-    core-kept : k < 8 → Cores plan supplied declines start (suc k) (serveCore (viewOf plan) supplied declines so k)
+    core-kept : k < 8 → Cores plan supplied passed start (suc k) (serveCore (viewOf plan) supplied passed so k)
     unfolding serveCore
     core-kept below = go (bitOf supplied k) refl
       where
         go : (b : Bool) → bitOf supplied k ≡ b →
-            Cores plan supplied declines start (suc k) (cond b (granting so k (walk (viewOf plan) declines 8 (Supply k) (so .left))) so)
+            Cores plan supplied passed start (suc k) (cond b (granting so k (walk (viewOf plan) passed 8 (Supply k) (so .left))) so)
         go true on =
-            core-granted below (walk (viewOf plan) declines 8 (Supply k) (so .left))
-            (walk-keeps plan sound supplied declines start (suc k) 8 at-top (omega arith) (so .left) (core-pending on))
+            core-granted below (walk (viewOf plan) passed 8 (Supply k) (so .left))
+            (walk-keeps plan sound supplied passed start (suc k) 8 at-top (omega arith) (so .left) (core-pending on))
         go false off = core-passed off
 
   -- the first k cores, from the slot's start
   pub cores-kept : (k : ℕ) → k ≤ 8 →
-      Cores plan supplied declines start k (serveTo (viewOf plan) supplied declines (record { grants = replicate 8 unsupplied; left = start }) k)
+      Cores plan supplied passed start k (serveTo (viewOf plan) supplied passed (record { grants = replicate 8 unsupplied; left = start }) k)
   unfolding serveTo
   cores-kept zero l = cores-none
   cores-kept (suc k) l =
-      core-kept k (serveTo (viewOf plan) supplied declines (record { grants = replicate 8 unsupplied; left = start }) k) (cores-kept k (omega arith)) l
+      core-kept k (serveTo (viewOf plan) supplied passed (record { grants = replicate 8 unsupplied; left = start }) k) (cores-kept k (omega arith)) l

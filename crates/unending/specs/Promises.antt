@@ -1,4 +1,5 @@
--- What is promised of slots given out from a fresh start, for every fit plan, every supply and whoever declines. Why each holds is in proofs/.
+-- What is promised of slots given out from a fresh start, for every fit plan, each slot with a setting of its own, every supply and whoever declines. Why each
+-- holds is in proofs/.
 -- Assumes nothing.
 use Prim.Native.Nat.{ℕ, suc, _+_, _*_, _<_}
 use mathlib.Core.Bool.{Bool, true, false}
@@ -14,70 +15,73 @@ use Rattle.rules.specs.Fit.{Fit}
 use Rattle.dispatch.specs.View.{viewOf, bitOf, isLeaf, servedC, servedT}
 use Rattle.dispatch.specs.Choice.{just, choose}
 use Rattle.dispatch.specs.Slot.{refilled, idle, unsupplied}
-use Rattle.dispatch.specs.Run.{freshState, course}
-use Rattle.unending.specs.Unending.{leftAt, has, charged, answerAt, granted, answersTo, may}
+use Rattle.dispatch.specs.Run.{freshState, courseBy}
+use Rattle.dispatch.specs.declared.Setting.{Setting}
+use Rattle.dispatch.specs.declared.Setting.the-variants.{Off}
+use Rattle.unending.specs.Unending.{leftAt, has, passedAt, charged, answerAt, granted, answersTo, may}
 
 -- Who is charged in a slot: the choice, on the refilled counts, of a parent that may give the slot. Above this nobody opens the walk.
 abbrev pub ChargedExactly : Type 0
 ChargedExactly =
-    (plan : Plan) → Fit plan → (supply declines : ℕ → ℕ) (i n : ℕ) → There plan i →
-    (charged plan supply declines i n ≡ true) ↔
-    ((may plan supply declines (parentOf plan i) n ≡ true) ×
-    (choose (viewOf plan) (refilled (viewOf plan) n (leftAt plan supply declines n)) (declines n) (parentOf plan i) ≡ just i))
+    (plan : Plan) → Fit plan → (settings : ℕ → Setting) (supply declines : ℕ → ℕ) (i n : ℕ) → There plan i →
+    (charged plan settings supply declines i n ≡ true) ↔
+    ((may plan settings supply declines (parentOf plan i) n ≡ true) ×
+    (choose (viewOf plan) (refilled (viewOf plan) n (leftAt plan settings supply declines n)) (passedAt plan settings supply declines n) (parentOf plan i) ≡ just i))
 
 -- A leaf is granted a slot exactly when it is charged in it.
 abbrev pub GrantedExactly : Type 0
 GrantedExactly =
-    (plan : Plan) → Fit plan → (supply declines : ℕ → ℕ) (i n : ℕ) → There plan i → isLeaf plan i ≡ true →
-    granted plan supply declines i n ≡ charged plan supply declines i n
+    (plan : Plan) → Fit plan → (settings : ℕ → Setting) (supply declines : ℕ → ℕ) (i n : ℕ) → There plan i → isLeaf plan i ≡ true →
+    granted plan settings supply declines i n ≡ charged plan settings supply declines i n
 
 -- What core s answers in slot n: 255 where it is not supplied; where it is, a leaf of that very core which is charged in this slot, or 254, and then no leaf
 -- of that core is charged.
-pub data Answered (plan : Plan) (supply declines : ℕ → ℕ) (n s : ℕ) : ℕ → Type 0 where
-  not-supplied : bitOf (supply n) s ≡ false → Answered plan supply declines n s unsupplied
+pub data Answered (plan : Plan) (settings : ℕ → Setting) (supply declines : ℕ → ℕ) (n s : ℕ) : ℕ → Type 0 where
+  not-supplied : bitOf (supply n) s ≡ false → Answered plan settings supply declines n s unsupplied
   the-leaf : {i : ℕ} → bitOf (supply n) s ≡ true → There plan i → isLeaf plan i ≡ true → OnCore plan i s →
-      charged plan supply declines i n ≡ true → Answered plan supply declines n s i
+      charged plan settings supply declines i n ≡ true → Answered plan settings supply declines n s i
   stays-idle : bitOf (supply n) s ≡ true →
-      ((i : ℕ) → There plan i → isLeaf plan i ≡ true → OnCore plan i s → charged plan supply declines i n ≡ false) → Answered plan supply declines n s idle
+      ((i : ℕ) → There plan i → isLeaf plan i ≡ true → OnCore plan i s → charged plan settings supply declines i n ≡ false) → Answered plan settings supply declines n s idle
 
 abbrev pub AnsweredExactly : Type 0
 AnsweredExactly =
-    (plan : Plan) → Fit plan → (supply declines : ℕ → ℕ) (n s : ℕ) → s < plan .cores →
-    Answered plan supply declines n s (answerAt plan supply declines n s)
+    (plan : Plan) → Fit plan → (settings : ℕ → Setting) (supply declines : ℕ → ℕ) (n s : ℕ) → s < plan .cores →
+    Answered plan settings supply declines n s (answerAt plan settings supply declines n s)
 
 -- 01: "From a fresh start, left plus what was charged since the last refill is always the served C." The last refill before slot b·T + a, a below T, is b·T.
 abbrev pub Balance : Type 0
 Balance =
-    (plan : Plan) → Fit plan → (supply declines : ℕ → ℕ) (i b a : ℕ) → There plan i → a < servedT plan i →
-    has plan supply declines i (b * servedT plan i + a) +
-    ones (charged plan supply declines i) (b * servedT plan i) a ≡
+    (plan : Plan) → Fit plan → (settings : ℕ → Setting) (supply declines : ℕ → ℕ) (i b a : ℕ) → There plan i → a < servedT plan i →
+    has plan settings supply declines i (b * servedT plan i + a) +
+    ones (charged plan settings supply declines i) (b * servedT plan i) a ≡
     servedC plan i
 
 -- And so it is after every slot, the last of a period included.
 abbrev pub BalanceAfter : Type 0
 BalanceAfter =
-    (plan : Plan) → Fit plan → (supply declines : ℕ → ℕ) (i b a : ℕ) → There plan i → a < servedT plan i →
-    getD (leftAt plan supply declines (suc (b * servedT plan i + a))) i 0 +
-    ones (charged plan supply declines i) (b * servedT plan i) (suc a) ≡
+    (plan : Plan) → Fit plan → (settings : ℕ → Setting) (supply declines : ℕ → ℕ) (i b a : ℕ) → There plan i → a < servedT plan i →
+    getD (leftAt plan settings supply declines (suc (b * servedT plan i + a))) i 0 +
+    ones (charged plan settings supply declines i) (b * servedT plan i) (suc a) ≡
     servedC plan i
 
 -- A node is charged only in a slot of its own core.
 abbrev pub OwnCore : Type 0
 OwnCore =
-    (plan : Plan) → Fit plan → (supply declines : ℕ → ℕ) (i n s : ℕ) → There plan i → OnCore plan i s →
-    charged plan supply declines i n ≡ true → bitOf (supply n) s ≡ true
+    (plan : Plan) → Fit plan → (settings : ℕ → Setting) (supply declines : ℕ → ℕ) (i n s : ℕ) → There plan i → OnCore plan i s →
+    charged plan settings supply declines i n ≡ true → bitOf (supply n) s ≡ true
 
 -- At most one child of a parent is charged in a slot.
 abbrev pub OneChild : Type 0
 OneChild =
-    (plan : Plan) → Fit plan → (supply declines : ℕ → ℕ) (i j n : ℕ) → There plan i → There plan j →
-    parentOf plan i ≡ parentOf plan j → charged plan supply declines i n ≡ true → charged plan supply declines j n ≡ true → i ≡ j
+    (plan : Plan) → Fit plan → (settings : ℕ → Setting) (supply declines : ℕ → ℕ) (i j n : ℕ) → There plan i → There plan j →
+    parentOf plan i ≡ parentOf plan j → charged plan settings supply declines i n ≡ true → charged plan settings supply declines j n ≡ true → i ≡ j
 
--- A run from a fresh start is the first part of the unending one, for any unending inputs that begin as the run's do: the same answers, and the same
--- counts after it.
+-- Slots from a fresh start are the first part of the unending ones, for any unending inputs that begin as theirs do: the same answers, and the same counts after
+-- them.
 abbrev pub FirstPart : Type 0
 FirstPart =
-    (plan : Plan) (supplies declines : List ℕ) (supply decline : ℕ → ℕ) →
+    (plan : Plan) (settings : List Setting) (supplies declines : List ℕ) (setting : ℕ → Setting) (supply decline : ℕ → ℕ) →
+    ((k : ℕ) → k < length supplies → setting k ≡ getD settings k Off) →
     ((k : ℕ) → k < length supplies → supply k ≡ getD supplies k 0) → ((k : ℕ) → k < length supplies → decline k ≡ getD declines k 0) →
-    course plan (freshState plan) supplies declines ≡
-    record { left = leftAt plan supply decline (length supplies); answers = answersTo plan supply decline (length supplies) }
+    courseBy plan (freshState plan) settings supplies declines ≡
+    record { left = leftAt plan setting supply decline (length supplies); answers = answersTo plan setting supply decline (length supplies) }

@@ -8,8 +8,8 @@ use native.Mathlib.Omega.{arith}
 use Rattle.dispatch.specs.View.{View}
 use Rattle.dispatch.specs.Run.{freshTo, freshLeft}
 
--- a list of one number over and over reads so everywhere, if that is what it reads past its end
-pub replicate-everywhere : (n i a : ℕ) → getD (replicate n a) i a ≡ a
+-- a list of one thing over and over reads so everywhere, if that is what it reads past its end
+pub replicate-everywhere : {A : Type 0} (n i : ℕ) (a : A) → getD (replicate n a) i a ≡ a
 replicate-everywhere n i a = go (decLt i n)
   where
     go : Dec (i < n) → getD (replicate n a) i a ≡ a

@@ -1,0 +1,22 @@
+-- What specs/Promises.antt says of the switch holds. Assumes nothing.
+use mathlib.Core.List.{[], _∷_}
+use Rattle.dispatch.specs.Run.{ran, outAfter, stepped}
+use Rattle.siblings.proofs.Off.{off-course}
+use Rattle.siblings.specs.Before as before
+use Rattle.siblings.specs.Promises.{OffRuns, OffWrites, OffSteps}
+
+-- with the switch off runs end,
+pub off-runs : OffRuns
+unfolding ran before.ran
+off-runs plan state supplies declines room = rw (off-course plan state supplies declines)
+
+-- write,
+pub off-writes : OffWrites
+unfolding outAfter before.outAfter
+off-writes plan state supplies declines out = rw (off-course plan state supplies declines)
+
+-- and step as before
+pub off-steps : OffSteps
+unfolding stepped before.stepped
+off-steps plan state supplied declines =
+    rw (off-runs plan state (supplied ∷ []) (declines ∷ []) 8, off-writes plan state (supplied ∷ []) (declines ∷ []) _)

@@ -1,2 +1,4 @@
 pub mod Off
+pub mod Leaves
+pub mod Turns
 pub mod Kept

@@ -75,7 +75,7 @@ module _ (plan : Plan) (sound : Sound plan) (supplied : ℕ) (passed : ℕ → B
       go false off = inl (off, so .later k (omega arith))
 
   -- and any other core's answer stays
-  other-told : (k s : ℕ) → (s ≡ k → ⊥) →
+  pub other-told : (k s : ℕ) → (s ≡ k → ⊥) →
       getD (serveCore (viewOf plan) supplied passed (served k) k .grants) s unsupplied ≡ getD (served k .grants) s unsupplied
   unfolding serveCore granting
   other-told k s other = go (bitOf supplied k)

@@ -1,12 +1,16 @@
 -- What specs/Promises.antt says of the switch holds. Assumes nothing.
 use mathlib.Core.List.{[], _∷_}
 use Rattle.plans.proofs.Parents.{node-depth}
-use Rattle.dispatch.proofs.SlotsDepth.{at-depth}
+use Rattle.dispatch.proofs.SlotsDepth.{at-top, at-depth}
+use Rattle.dispatch.specs.View.{viewOf}
+use Rattle.dispatch.specs.Passed.{passedOver}
+use Rattle.dispatch.specs.Slot.{refilled, slot}
 use Rattle.dispatch.specs.Run.{ran, outAfter, stepped}
 use Rattle.siblings.proofs.Off.{off-course}
 use Rattle.siblings.proofs.Leaves.{over-nobody, nobody-over, nobody-none-can, none-can-nobody}
+use Rattle.siblings.proofs.Idle.{answer-nobody, nobody-answer, passed-untouched, idle-untouched}
 use Rattle.siblings.specs.Before as before
-use Rattle.siblings.specs.Promises.{OffRuns, OffWrites, OffSteps, VainExactly}
+use Rattle.siblings.specs.Promises.{OffRuns, OffWrites, OffSteps, VainExactly, NothingWasted, PassedUncharged, IdleUncharged}
 
 -- with the switch off runs end,
 pub off-runs : OffRuns
@@ -30,3 +34,24 @@ vain-exactly plan sound full declines h l host = (
   λ over. nobody-none-can plan sound full declines (over-nobody plan sound full declines h l host over),
   λ none. nobody-over plan sound full declines h l host (none-can-nobody plan sound full declines (at-depth (node-depth plan sound h l .is)) none),
 )
+
+-- so a supplied core is idle exactly when no leaf on it can take the slot
+pub nothing-wasted : NothingWasted
+unfolding slot
+nothing-wasted plan sound n supplied declines left s l on =
+    let full = refilled (viewOf plan) n left in
+    (λ e. nobody-none-can plan sound full declines (answer-nobody plan sound full supplied declines s l on e),
+    λ none. nobody-answer plan sound full supplied declines s l on (none-can-nobody plan sound full declines at-top none))
+
+-- nobody passed over is charged,
+pub passed-uncharged : PassedUncharged
+unfolding slot
+passed-uncharged setting plan sound n supplied declines left i l over =
+    let full = refilled (viewOf plan) n left in
+    passed-untouched plan sound full supplied (passedOver setting (viewOf plan) full declines) i over
+
+-- and with the switch on nobody on an idle core
+pub idle-uncharged : IdleUncharged
+unfolding slot
+idle-uncharged plan sound n supplied declines left s l e i there on =
+    idle-untouched plan sound (refilled (viewOf plan) n left) supplied declines s l e i on

@@ -1,4 +1,6 @@
 pub mod Off
 pub mod Leaves
 pub mod Turns
+pub mod Wasted
+pub mod Idle
 pub mod Kept

@@ -1,16 +1,23 @@
 -- What specs/Promises.antt says of the switch holds. Assumes nothing.
 use mathlib.Core.List.{[], _∷_}
+use native.Mathlib.Omega.{arith}
 use Rattle.plans.proofs.Parents.{node-depth}
+use Rattle.plans.specs.declared.Parent.the-variants.{Supply}
 use Rattle.dispatch.proofs.SlotsDepth.{at-top, at-depth}
 use Rattle.dispatch.specs.View.{viewOf}
 use Rattle.dispatch.specs.Passed.{passedOver}
-use Rattle.dispatch.specs.Slot.{refilled, slot}
+use Rattle.dispatch.specs.Slot.{refilled, serveTo, slotStart, slot}
+use Rattle.dispatch.specs.declared.Setting.the-variants.{On}
 use Rattle.dispatch.specs.Run.{ran, outAfter, stepped}
 use Rattle.siblings.proofs.Off.{off-course}
 use Rattle.siblings.proofs.Leaves.{over-nobody, nobody-over, nobody-none-can, none-can-nobody}
 use Rattle.siblings.proofs.Idle.{answer-nobody, nobody-answer, passed-untouched, idle-untouched}
+use Rattle.siblings.proofs.Turns.{turn-untouched}
+use Rattle.siblings.proofs.Wasted.{Whole}
+use Rattle.siblings.proofs.Skipping.{none-vain}
+use Rattle.siblings.proofs.Back.{back-ahead, ahead-back}
 use Rattle.siblings.specs.Before as before
-use Rattle.siblings.specs.Promises.{OffRuns, OffWrites, OffSteps, VainExactly, NothingWasted, PassedUncharged, IdleUncharged}
+use Rattle.siblings.specs.Promises.{OffRuns, OffWrites, OffSteps, VainExactly, NothingWasted, PassedUncharged, IdleUncharged, GoesBack}
 
 -- with the switch off runs end,
 pub off-runs : OffRuns
@@ -55,3 +62,12 @@ pub idle-uncharged : IdleUncharged
 unfolding slot
 idle-uncharged plan sound n supplied declines left s l e i there on =
     idle-untouched plan sound (refilled (viewOf plan) n left) supplied declines s l e i on
+
+-- and each core's walk ends as going back literally does
+pub goes-back : GoesBack
+goes-back plan sound full supplied declines s l w =
+    let passed = passedOver On (viewOf plan) full declines in
+    let whole : Whole plan full (Supply s) (serveTo (viewOf plan) supplied passed (slotStart full) s .left) =
+    λ i there below. turn-untouched plan sound supplied passed full s (omega (arith, sound .eight-cores)) i below in
+    (λ ends. back-ahead plan sound full declines ends at-top whole (none-vain passed),
+    λ is. rw is (ahead-back plan sound full declines 8 at-top (omega arith) _ whole))

@@ -1,9 +1,9 @@
 -- Who is not charged in a slot: whoever is passed over, and with the switch on all that is on an idle core, under whose supply nobody is chosen. Assumes nothing.
-use Prim.Native.Nat.{ℕ, suc, _≤_, _<_}
+use Prim.Native.Nat.{ℕ, _<_}
 use mathlib.Core.Bool.{Bool, true, false, true≢false}
 use mathlib.Core.List.{List}
 use mathlib.Core.Logic.{inl, inr}
-use mathlib.Core.Path.{_≡_, refl, sym, _∙_}
+use mathlib.Core.Path.{_≡_, sym, _∙_}
 use lib.ListN.{getD}
 use native.Mathlib.Decide.{decLt}
 use native.Mathlib.Nat.{le-antisymm}
@@ -16,7 +16,7 @@ use Rattle.plans.specs.declared.Plan.{Plan}
 use Rattle.dispatch.proofs.Choices.{choice-willing}
 use Rattle.dispatch.proofs.SlotsDepth.{at-top}
 use Rattle.dispatch.specs.View.{viewOf, bitOf}
-use Rattle.dispatch.specs.Choice.{Pick, nobody, just, choose}
+use Rattle.dispatch.specs.Choice.{nobody, just, choose}
 use Rattle.dispatch.specs.Passed.{passedOver}
 use Rattle.dispatch.specs.Slot.{idle, unsupplied}
 use Rattle.dispatch.specs.declared.Setting.the-variants.{On}

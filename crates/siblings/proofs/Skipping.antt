@@ -9,7 +9,7 @@ use borrow.Author.Tests.{eqb-true, eq-eqb, ne-eqb}
 use native.Mathlib.Decide.{ℕ-discrete}
 use native.Mathlib.Omega.{arith}
 use Rattle.plans.specs.declared.Parent.{Parent}
-use Rattle.dispatch.proofs.Choices.{eligible-under, eligible-left, eligible-willing, eligible-child, choice-chosen, chosen-choice, choice-willing}
+use Rattle.dispatch.proofs.Choices.{eligible-under, eligible-left, eligible-willing, eligible-child, choice-chosen, chosen-choice}
 use Rattle.dispatch.proofs.Passing.{fewer-nobody}
 use Rattle.dispatch.specs.View.{View, bitOf}
 use Rattle.dispatch.specs.Choice.{nobody, just, eligible, choose}

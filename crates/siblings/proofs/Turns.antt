@@ -1,9 +1,9 @@
 -- Each core's turn in a slot: what stands on it is untouched before, its answer is the grant of its own walk, and a node falls only under a parent that gave the
 -- slot. Assumes nothing.
 use Prim.Native.Nat.{ℕ, zero, suc, _≤_, _<_}
-use mathlib.Core.Bool.{Bool, true, cond}
+use mathlib.Core.Bool.{Bool, true}
 use mathlib.Core.List.{List}
-use mathlib.Core.Path.{_≡_, refl, sym, _∙_}
+use mathlib.Core.Path.{_≡_, _∙_}
 use lib.ListN.{getD}
 use lib.Seq.{getD-set-same}
 use native.Mathlib.Decide.{ℕ-discrete}
@@ -11,14 +11,13 @@ use native.Mathlib.Omega.{arith}
 use Rattle.plans.specs.Cores.{child, deeper, OnCore}
 use Rattle.plans.specs.Plan.{parentOf}
 use Rattle.plans.specs.Sound.{Sound}
-use Rattle.plans.specs.declared.Parent.{Parent}
 use Rattle.plans.specs.declared.Parent.the-variants.{Supply, Node as Under}
 use Rattle.plans.specs.declared.Plan.{Plan}
 use Rattle.dispatch.specs.View.{viewOf, bitOf}
 use Rattle.dispatch.specs.Slot.{SlotEnd, slotStart, unsupplied, walk, granting, serveCore, serveTo}
 use Rattle.unending.proofs.Answers.{other-told}
 use Rattle.unending.proofs.Books.{Books, shut-untouched}
-use Rattle.unending.proofs.Cores.{Cores, cores-kept}
+use Rattle.unending.proofs.Cores.{cores-kept}
 
 module _ (plan : Plan) (supplied : ℕ) (passed : ℕ → Bool) (start : List ℕ) (k : ℕ) (now : List ℕ)
     (b : Books plan supplied passed start k (λ y. ⊥) now) (s : ℕ) where

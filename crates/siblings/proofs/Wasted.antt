@@ -1,9 +1,9 @@
 -- With the switch on a walk ends idle exactly where nobody is chosen under its parent by the counts at the slot's start: whoever is chosen is not passed over, so
 -- somebody takes the slot below. Assumes nothing.
-use Prim.Native.Nat.{ℕ, zero, suc, _+_, _≤_, _<_}
+use Prim.Native.Nat.{ℕ, zero, suc, _+_, _≤_}
 use mathlib.Core.Bool.{Bool, true, false, cond}
 use mathlib.Core.List.{List}
-use mathlib.Core.Path.{_≡_, refl, sym, ap, _∙_}
+use mathlib.Core.Path.{_≡_, refl, sym, _∙_}
 use lib.ListN.{getD}
 use native.Mathlib.Nat.{suc-add, add-suc}
 use native.Mathlib.Omega.{arith}
@@ -20,7 +20,7 @@ use Rattle.dispatch.proofs.SlotsDepth.{Stands, choice-stands, deepest-nobody, w
 use Rattle.dispatch.specs.View.{viewOf, isLeaf}
 use Rattle.dispatch.specs.Choice.{Pick, nobody, just, choose}
 use Rattle.dispatch.specs.Passed.{passedOver}
-use Rattle.dispatch.specs.Slot.{WalkEnd, idle, charge, follow, walk}
+use Rattle.dispatch.specs.Slot.{idle, charge, follow, walk}
 use Rattle.dispatch.specs.declared.Setting.the-variants.{On}
 use Rattle.siblings.proofs.Leaves.{beneath-later, some-under}
 

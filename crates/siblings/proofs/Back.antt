@@ -48,15 +48,21 @@ module _ (plan : Plan) (sound : Sound plan) (full : List ℕ) (declines : ℕ) w
       ahead-leaf leaf =
           let kept =
           kept-leaf (viewOf plan) declines passed (leaf-over plan sound full declines) tried i leaf (choice-willing (viewOf plan) left skip x i c) in
-          rw (walk-on plan sound passed s left,
-          skipped-choice (viewOf plan) declines passed (leaf-over plan sound full declines) tried vain left x i c kept, leaf)
+          rw (
+            walk-on plan sound passed s left,
+            skipped-choice (viewOf plan) declines passed (leaf-over plan sound full declines) tried vain left x i c kept,
+            leaf,
+          )
 
       -- and where a host is chosen that is not passed over it goes on below
       ahead-host : isLeaf plan i ≡ false → passed i ≡ false → ahead x left ≡ ahead (Under i) (charge left i)
       unfolding follow
       ahead-host host kept =
-          rw (walk-on plan sound passed s left,
-          skipped-choice (viewOf plan) declines passed (leaf-over plan sound full declines) tried vain left x i c kept, host)
+          rw (
+            walk-on plan sound passed s left,
+            skipped-choice (viewOf plan) declines passed (leaf-over plan sound full declines) tried vain left x i c kept,
+            host,
+          )
 
   module _ {x : Parent} {e : ℕ} (s : Stands plan x e) (left : List ℕ) (whole : Whole plan full x left) (h : ℕ) (l : There plan h) (up : parentOf plan h ≡ x)
       (host : isLeaf plan h ≡ false) where

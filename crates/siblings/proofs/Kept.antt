@@ -46,9 +46,10 @@ vain-exactly plan sound full declines h l host = (
 pub nothing-wasted : NothingWasted
 unfolding slot
 nothing-wasted plan sound n supplied declines left s l on =
-    let full = refilled (viewOf plan) n left in
-    (λ e. nobody-none-can plan sound full declines (answer-nobody plan sound full supplied declines s l on e),
-    λ none. nobody-answer plan sound full supplied declines s l on (none-can-nobody plan sound full declines at-top none))
+    let full = refilled (viewOf plan) n left in (
+      λ e. nobody-none-can plan sound full declines (answer-nobody plan sound full supplied declines s l on e),
+      λ none. nobody-answer plan sound full supplied declines s l on (none-can-nobody plan sound full declines at-top none),
+    )
 
 -- nobody passed over is charged,
 pub passed-uncharged : PassedUncharged
@@ -68,6 +69,7 @@ pub goes-back : GoesBack
 goes-back plan sound full supplied declines s l w =
     let passed = passedOver On (viewOf plan) full declines in
     let whole : Whole plan full (Supply s) (serveTo (viewOf plan) supplied passed (slotStart full) s .left) =
-    λ i there below. turn-untouched plan sound supplied passed full s (omega (arith, sound .eight-cores)) i below in
-    (λ ends. back-ahead plan sound full declines ends at-top whole (none-vain passed),
-    λ is. rw is (ahead-back plan sound full declines 8 at-top (omega arith) _ whole))
+    λ i there below. turn-untouched plan sound supplied passed full s (omega (arith, sound .eight-cores)) i below in (
+      λ ends. back-ahead plan sound full declines ends at-top whole (none-vain passed),
+      λ is. rw is (ahead-back plan sound full declines 8 at-top (omega arith) _ whole),
+    )

@@ -148,28 +148,30 @@ module _ (plan : Plan) (sound : Sound plan) (full : List ℕ) (declines : ℕ) w
       through can h (inr b) a = can .above h b a
 
       go : (b : Bool) → isLeaf plan j ≡ b → ((k : ℕ) → choose (viewOf plan) full passed (Under j) ≡ just k → (i : ℕ) × Can (Under j) i) → (i : ℕ) × Can x i
-      go true leaf below =
-          (j,
-          record {
-            there = there;
-            leaf = leaf;
-            below = child up;
-            willing = sym (leaf-over j leaf) ∙ choice-willing (viewOf plan) full passed x j c;
-            some = choice-left (viewOf plan) full passed x j c;
-            above = λ h b a. absurd (nothing-between plan sound there up b a);
-          })
+      go true leaf below = (
+        j,
+        record {
+          there = there;
+          leaf = leaf;
+          below = child up;
+          willing = sym (leaf-over j leaf) ∙ choice-willing (viewOf plan) full passed x j c;
+          some = choice-left (viewOf plan) full passed x j c;
+          above = λ h b a. absurd (nothing-between plan sound there up b a);
+        },
+      )
       go false host below =
           let (k, d) = some-under j there host (choice-willing (viewOf plan) full passed x j c) in
-          let (i, can) = below k d in
-          (i,
-          record {
-            there = can .there;
-            leaf = can .leaf;
-            below = beneath-host plan up (can .below);
-            willing = can .willing;
-            some = can .some;
-            above = λ h b a. through can h (above-one plan sound there up b (can .below) a) a;
-          })
+          let (i, can) = below k d in (
+            i,
+            record {
+              there = can .there;
+              leaf = can .leaf;
+              below = beneath-host plan up (can .below);
+              willing = can .willing;
+              some = can .some;
+              above = λ h b a. through can h (above-one plan sound there up b (can .below) a) a;
+            },
+          )
 
   -- nobody is chosen under x exactly where no leaf beneath it can take the slot
   pub nobody-none-can : {x : Parent} → choose (viewOf plan) full passed x ≡ nobody → NoneCan plan full declines x

@@ -58,8 +58,11 @@ off-course-to : (v : View) (cores n many : ℕ) (supplies declines left : List �
 unfolding courseTo before.courseTo
 off-course-to v cores n many supplies declines left zero = refl
 off-course-to v cores n many supplies declines left (suc k) =
-    rw (off-course-to v cores n many supplies declines left k, replicate-everywhere many k Off,
-    off-slot v cores (n + k) (getD supplies k 0) (getD declines k 0) (before.courseTo v cores n supplies declines left k .left))
+    rw (
+      off-course-to v cores n many supplies declines left k,
+      replicate-everywhere many k Off,
+      off-slot v cores (n + k) (getD supplies k 0) (getD declines k 0) (before.courseTo v cores n supplies declines left k .left),
+    )
 
 -- so do the slots of a run
 pub off-course : (plan : Plan) (state : Standing) (supplies declines : List ℕ) →

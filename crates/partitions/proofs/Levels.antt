@@ -20,11 +20,13 @@ use Rattle.plans.specs.declared.Plan.{Plan}
 use Rattle.plans.proofs.Entries.{child-of-parent, parent-of-child}
 use Rattle.rules.specs.Fit.{Child, Fit, childPeriod, longest, load, loadTo, isWhole, owes, side}
 use Rattle.rules.proofs.Formed.{parent-formed}
-use Rattle.dispatch.specs.View.{bitOf, isLeaf, servedC, servedT}
-use Rattle.unending.specs.Unending.{has, charged, may}
+use Rattle.dispatch.specs.View.{servedC, servedT}
+use Rattle.dispatch.specs.declared.Setting.{Setting}
+use Rattle.unending.specs.Unending.{has, passedAt, charged}
 use Rattle.levels.specs.Level.{Books, Level, Offered, Kept}
 use Rattle.levels.specs.Level as Levels
 use Rattle.levels.proofs.Periods.{at-least}
+use Rattle.partitions.specs.Case.{offers}
 
 -- node j is served sooner than node i: it has the smaller served period, or the same and the lower number
 unfoldable pub sooner : Plan → ℕ → ℕ → Bool
@@ -60,7 +62,7 @@ sooner-other plan i =
     let t = servedT plan i in
     rw (le-ltb t t (le-refl t), eq-eqb t t refl, le-ltb i i (le-refl i))
 
-module _ (plan : Plan) (supply declines : ℕ → ℕ) where
+module _ (plan : Plan) (settings : ℕ → Setting) (supply declines : ℕ → ℕ) where
   -- parent x and its children, with slots given out from a fresh start
   abbrev pub levelOf : Parent → Level
   levelOf x =
@@ -69,19 +71,19 @@ module _ (plan : Plan) (supply declines : ℕ → ℕ) where
         child = isChild plan x;
         c = servedC plan;
         t = servedT plan;
-        gives = may plan supply declines x;
+        gives = offers plan settings supply declines x;
         owes = owes (ownType plan x);
-        has = has plan supply declines;
-        charged = charged plan supply declines;
+        has = has plan settings supply declines;
+        charged = charged plan settings supply declines;
         sooner = sooner plan;
       }
 
-  -- What the dispatcher keeps: each node's books, who is charged was offered the slot, and who is offered a slot and does not decline is charged.
+  -- What the dispatcher keeps: each node's books, who is charged was offered the slot, and who is offered a slot and is not passed over is charged.
   pub record Keeps : Type 0 where
-    pub books : (i : ℕ) → i < plan .size → Books (servedC plan i) (servedT plan i) (has plan supply declines i) (charged plan supply declines i)
-    pub offered : (x : Parent) (i : ℕ) → Child plan x i → (n : ℕ) → charged plan supply declines i n ≡ true → Offered (levelOf x) i n
+    pub books : (i : ℕ) → i < plan .size → Books (servedC plan i) (servedT plan i) (has plan settings supply declines i) (charged plan settings supply declines i)
+    pub offered : (x : Parent) (i : ℕ) → Child plan x i → (n : ℕ) → charged plan settings supply declines i n ≡ true → Offered (levelOf x) i n
     pub taken : (x : Parent) (i : ℕ) → Child plan x i → (n : ℕ) → Offered (levelOf x) i n →
-        (isLeaf plan i ≡ true → bitOf (declines n) i ≡ false) → charged plan supply declines i n ≡ true
+        passedAt plan settings supply declines n i ≡ false → charged plan settings supply declines i n ≡ true
 
   module _ (x : Parent) (i : ℕ) where
     -- a child in the plan is one in the level
@@ -93,18 +95,18 @@ module _ (plan : Plan) (supply declines : ℕ → ℕ) where
     in-plan c = record { there = c .there; under = parent-of-child plan x i (c .is) }
 
   module _ (fit : Fit plan) (x : Parent) (i : ℕ) (c : Child plan x i) where
-    -- a whole parent that honours its own type may give every slot
-    pub every-slot : Honours Aligned (ownType plan x) (may plan supply declines x) → isWhole (ownType plan x) ≡ true →
-        (n : ℕ) → may plan supply declines x n ≡ true
+    -- a whole parent that honours its own type has every slot
+    pub every-slot : Honours Aligned (ownType plan x) (offers plan settings supply declines x) → isWhole (ownType plan x) ≡ true →
+        (n : ℕ) → offers plan settings supply declines x n ≡ true
     unfolding isWhole
     every-slot honours whole =
         let own : SlotType = ownType plan x in
         let some = bounds own (parent-formed plan (fit .sound) x i c) .some in
-        honours-every Aligned own some (eqb-true (own .c) (own .t) whole) (may plan supply declines x) honours
+        honours-every Aligned own some (eqb-true (own .c) (own .t) whole) (offers plan settings supply declines x) honours
 
     -- where a parent honours its own type it gives what it owes in each served period of a child: every slot where it is whole, and otherwise by rule 12
-    gives-owed : Honours Aligned (ownType plan x) (may plan supply declines x) → (b : ℕ) →
-        owes (ownType plan x) (servedT plan i) ≤ ones (may plan supply declines x) (b * servedT plan i) (servedT plan i)
+    gives-owed : Honours Aligned (ownType plan x) (offers plan settings supply declines x) → (b : ℕ) →
+        owes (ownType plan x) (servedT plan i) ≤ ones (offers plan settings supply declines x) (b * servedT plan i) (servedT plan i)
     unfolding servedT owes
     gives-owed honours b = go (isWhole own) refl
       where
@@ -112,10 +114,10 @@ module _ (plan : Plan) (supply declines : ℕ → ℕ) where
         own = ownType plan x
 
         go : (w : Bool) → isWhole own ≡ w →
-            cond w (servedT plan i) (own .c * (servedT plan i / own .t)) ≤ ones (may plan supply declines x) (b * servedT plan i) (servedT plan i)
-        go true e = le-of-eq (sym (ones-all (may plan supply declines x) (every-slot honours e) (b * servedT plan i) (servedT plan i)))
+            cond w (servedT plan i) (own .c * (servedT plan i / own .t)) ≤ ones (offers plan settings supply declines x) (b * servedT plan i) (servedT plan i)
+        go true e = le-of-eq (sym (ones-all (offers plan settings supply declines x) (every-slot honours e) (b * servedT plan i) (servedT plan i)))
         go false e =
-            at-least (own .c) (own .t) (may plan supply declines x) (λ k. honours (k * own .t) (k, refl)) (servedT plan i) (fit .rule12 x i c e) b
+            at-least (own .c) (own .t) (offers plan settings supply declines x) (λ k. honours (k * own .t) (k, refl)) (servedT plan i) (fit .rule12 x i c e) b
 
     -- and it owes in proportion
     owes-scales : (e : ℕ) → owes (ownType plan x) (e * servedT plan i) ≤ e * owes (ownType plan x) (servedT plan i)
@@ -135,7 +137,7 @@ module _ (plan : Plan) (supply declines : ℕ → ℕ) where
             (le-of-eq (mul-left-comm (own .c) e (servedT plan i / own .t)))
 
   -- where a parent of a fit plan honours its own type its level is kept
-  pub level-kept : Fit plan → Keeps → (x : Parent) → Honours Aligned (ownType plan x) (may plan supply declines x) → Kept (levelOf x)
+  pub level-kept : Fit plan → Keeps → (x : Parent) → Honours Aligned (ownType plan x) (offers plan settings supply declines x) → Kept (levelOf x)
   unfolding servedT servedC Levels.longest Levels.load longest load loadTo side childPeriod
   level-kept fit keeps x honours =
       record {

@@ -2,7 +2,7 @@
 -- The slots outside those periods are taken as its own, so that rule 11 speaks of an allocation that honours the served type. Assumes nothing.
 use Prim.Native.Nat.{ℕ, _+_, _-_, _/_, _≤_, _<_}
 use mathlib.Core.Bool.{Bool, true, false, not, _||_}
-use mathlib.Core.Path.{_≡_, refl}
+use mathlib.Core.Path.{_≡_, refl, _∙_}
 use native.Mathlib.Omega.{arith}
 use lib.Dec.{eqb}
 use borrow.Author.Tests.{eqb-true, eq-eqb}
@@ -13,8 +13,12 @@ use Rattle.owed.proofs.Ones.{ones-ext}
 use Rattle.plans.specs.Plan.{parentOf, kindOf, wantedOf, servedOf, wantedAs, supplyAt}
 use Rattle.plans.specs.declared.Plan.{Plan}
 use Rattle.rules.specs.Fit.{Fit}
-use Rattle.dispatch.specs.View.{bitOf}
-use Rattle.unending.specs.Unending.{charged}
+use Rattle.dispatch.specs.View.{viewOf, bitOf, isLeaf}
+use Rattle.dispatch.specs.Passed.{passedOver, levelsDown}
+use Rattle.dispatch.specs.declared.Setting.{Setting}
+use Rattle.dispatch.proofs.Passing.{leaf-passed}
+use Rattle.unending.specs.Unending.{passedAt, charged}
+use Rattle.unending.proofs.Slots.{startAt}
 use Rattle.levels.specs.Level.{Offered}
 use Rattle.partitions.specs.Case.{slotsOf}
 use Rattle.partitions.proofs.Any.{any, any-found, any-here}
@@ -53,14 +57,15 @@ module _ (T w L : ℕ) (α : Allocation) where
           h k below (eqb-true (n / T) ((w + k) / T) at)
       go false e = refl
 
-module _ (plan : Plan) (fit : Fit plan) (supply declines : ℕ → ℕ) (keeps : Keeps plan supply declines) (supplied : (s : ℕ) → s < plan .cores → Honours Aligned (supplyAt plan s) (slotsOf supply s)) where
-  -- under a supply that keeps its types a node that declines in no served period touching a wanted window is charged what it asked for there
-  pub window-served : (i : ℕ) → i < plan .size → (w : ℕ) → Starts (wantedAs (kindOf plan i)) (wantedOf plan i .t) w →
+module _ (plan : Plan) (fit : Fit plan) (settings : ℕ → Setting) (supply declines : ℕ → ℕ) (keeps : Keeps plan settings supply declines) (supplied : (s : ℕ) → s < plan .cores → Honours Aligned (supplyAt plan s) (slotsOf supply s)) where
+  -- under a supply that keeps its types a leaf that declines in no served period touching a wanted window is charged what it asked for there
+  pub window-served : (i : ℕ) → i < plan .size → isLeaf plan i ≡ true → (w : ℕ) → Starts (wantedAs (kindOf plan i)) (wantedOf plan i .t) w →
       ((x y : ℕ) → w ≤ y → y < w + wantedOf plan i .t → x / servedOf plan i .t ≡ y / servedOf plan i .t → bitOf (declines x) i ≡ false) →
-      wantedOf plan i .c ≤ ones (charged plan supply declines i) w (wantedOf plan i .t)
-  window-served i l w starts accepts =
+      wantedOf plan i .c ≤ ones (charged plan settings supply declines i) w (wantedOf plan i .t)
+  unfolding passedAt passedOver
+  window-served i l leaf w starts accepts =
       rw (ones-ext (patched T w L mine) mine w L (patched-inside T w L mine)) at
-      (fit .rule11 i l (patched T w L mine) (offered-served plan fit supply declines keeps supplied i l (patched T w L mine) covers) w starts)
+      (fit .rule11 i l (patched T w L mine) (offered-served plan fit settings supply declines keeps supplied i l (patched T w L mine) covers) w starts)
     where
       T : ℕ
       T = servedOf plan i .t
@@ -69,9 +74,12 @@ module _ (plan : Plan) (fit : Fit plan) (supply declines : ℕ → ℕ) (keeps :
       L = wantedOf plan i .t
 
       mine : Allocation
-      mine = charged plan supply declines i
+      mine = charged plan settings supply declines i
 
-      covers : (n : ℕ) → Offered (levelOf plan supply declines (parentOf plan i)) i n → patched T w L mine n ≡ true
+      covers : (n : ℕ) → Offered (levelOf plan settings supply declines (parentOf plan i)) i n → patched T w L mine n ≡ true
       covers n o =
           patched-set T w L mine n
-          (λ k m e. keeps .taken (parentOf plan i) i (record { there = l; under = refl }) n o (λ leaf. accepts n (w + k) (omega arith) (omega arith) e))
+          (λ k m e.
+          keeps .taken (parentOf plan i) i (record { there = l; under = refl }) n o
+          (leaf-passed (viewOf plan) (startAt plan settings supply declines n) (declines n) (levelsDown (settings n)) i leaf ∙
+          accepts n (w + k) (omega arith) (omega arith) e))

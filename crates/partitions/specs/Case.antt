@@ -1,29 +1,34 @@
 -- The case that demand 3 speaks of, and its notions, each a sentence's part over that case. Only whether the bytes are accepted is not said here. Assumes
 -- nothing.
 use Prim.Native.Nat.{ℕ, _+_, _*_, _/_, _≤_, _<_}
-use mathlib.Core.Bool.{false}
+use mathlib.Core.Bool.{Bool, false, _||_}
 use mathlib.Core.List.{List, _++_}
 use mathlib.Core.Path.{_≡_}
 use lib.Dec.{eqb}
-use lib.ListN.{length, getD}
+use lib.ListN.{length, getD, replicate}
 use Rattle.meaning.specs.Allocation.{Allocation, ones}
 use Rattle.meaning.specs.Types.{Starts, Honours}
 use Rattle.meaning.specs.declared.Kind.the-variants.{Aligned}
 use Rattle.plans.specs.Plan.{There, supplyAt, kindOf, wantedOf, servedOf, wantedAs, isHost}
 use Rattle.plans.specs.Cores.{coreOf}
+use Rattle.plans.specs.declared.Parent.{Parent}
+use Rattle.plans.specs.declared.Parent.the-variants.{Supply, Node as Under}
 use Rattle.plans.specs.declared.Plan.{Plan}
 use Rattle.dispatch.specs.View.{bitOf}
 use Rattle.dispatch.specs.Slot.{unsupplied}
 use Rattle.dispatch.specs.Run.{done, Standing, started, ran, outAfter}
 use Rattle.dispatch.specs.Reached.{Reached}
-use Rattle.unending.specs.Unending.{charged}
+use Rattle.dispatch.specs.declared.Setting.{Setting}
+use Rattle.dispatch.specs.declared.Setting.the-variants.{Off}
+use Rattle.unending.specs.Unending.{passedAt, charged, may}
 
--- A plan, as bytes and as a value; an unending supply, of which `supply n` is the byte of supplied cores of slot n; a run, by its supply bytes, its decline
--- words and the buffer that has its answers; a partition, by its node's number; and the slot at which a window of it starts.
+-- A plan, as bytes and as a value; an unending supply, of which `supply n` is the byte of supplied cores of slot n; a run, by its settings, one for each slot, its
+-- supply bytes, its decline words and the buffer that has its answers; a partition, by its node's number; and the slot at which a window of it starts.
 pub record Case : Type 0 where
   pub bytes : List ℕ
   pub plan : Plan
   pub supply : ℕ → ℕ
+  pub settings : List Setting
   pub supplies : List ℕ
   pub declines : List ℕ
   pub buffer : List ℕ
@@ -42,19 +47,22 @@ KeepsTypes c = (s : ℕ) → s < c .plan .cores → Honours Aligned (supplyAt (c
 abbrev pub OverFirstPart : Case → Type 0
 OverFirstPart c = (k : ℕ) → k < length (c .supplies) → c .supply k ≡ getD (c .supplies) k 0
 
--- "started fresh": the buffer begins with the answers of runs and steps, one after the other, from a fresh start and over these inputs
+-- "started fresh": the buffer begins with the answers of runs and steps, one after the other, from a fresh start and over these inputs, each call with a setting
+-- of its own
 pub record FromFresh (c : Case) : Type 0 where
   pub state : Standing
   pub answers : List ℕ
   pub beyond : List ℕ
-  pub reached : Reached (c .plan) state (c .supplies) (c .declines) answers
+  pub reached : Reached (c .plan) state (c .settings) (c .supplies) (c .declines) answers
   pub holds : c .buffer ≡ answers ++ beyond
 
--- the same by one run into a buffer `out`
+-- the same by one run, with one setting, into a buffer `out`
 pub record ByOneRun (c : Case) : Type 0 where
+  pub setting : Setting
   pub out : List ℕ
-  pub ends : ran (c .plan) (started (c .plan) .state) (c .supplies) (c .declines) (length out) .outcome ≡ done
-  pub holds : c .buffer ≡ outAfter (c .plan) (started (c .plan) .state) (c .supplies) (c .declines) out
+  pub set : c .settings ≡ replicate (length (c .supplies)) setting
+  pub ends : ran setting (c .plan) (started (c .plan) .state) (c .supplies) (c .declines) (length out) .outcome ≡ done
+  pub holds : c .buffer ≡ outAfter setting (c .plan) (started (c .plan) .state) (c .supplies) (c .declines) out
 
 -- "a partition": a node of the plan that is a leaf
 pub record IsPartition (c : Case) : Type 0 where
@@ -94,4 +102,9 @@ received c = ones (receives (c .plan) (c .buffer) (c .partition)) (c .window) (p
 
 -- the slots in which node i, partition or host, is charged in the run
 abbrev pub charges : Case → ℕ → Allocation
-charges c i = charged (c .plan) (λ n. getD (c .supplies) n 0) (λ n. getD (c .declines) n 0) i
+charges c i = charged (c .plan) (λ n. getD (c .settings) n Off) (λ n. getD (c .supplies) n 0) (λ n. getD (c .declines) n 0) i
+
+-- parent x has slot n for its children: it may give it, or it is a host that is passed over in it, since none of them takes it (02, request 12)
+unfoldable pub offers : Plan → (ℕ → Setting) → (ℕ → ℕ) → (ℕ → ℕ) → Parent → ℕ → Bool
+offers plan settings supply declines (Supply s) n = may plan settings supply declines (Supply s) n
+offers plan settings supply declines (Under h) n = may plan settings supply declines (Under h) n || passedAt plan settings supply declines n h

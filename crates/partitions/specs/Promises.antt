@@ -1,4 +1,4 @@
--- Demand 3 for a plan value that fits. Why each holds is in proofs/. Assumes nothing.
+-- Demand 3 for a plan value that fits, whatever the setting of each call. Why each holds is in proofs/. Assumes nothing.
 use Prim.Native.Nat.{ℕ, suc, _+_, _*_, _≤_, _<_}
 use mathlib.Core.Bool.{true}
 use mathlib.Core.Path.{_≡_}
@@ -8,6 +8,8 @@ use Rattle.plans.specs.Plan.{There, servedOf, ownType}
 use Rattle.plans.specs.declared.Parent.{Parent}
 use Rattle.plans.specs.declared.Plan.{Plan}
 use Rattle.rules.specs.Fit.{isWhole, Child, Fit}
+use Rattle.dispatch.specs.declared.Setting.{Setting}
+use Rattle.dispatch.specs.declared.Setting.the-variants.{Off}
 use Rattle.unending.specs.Unending.{charged, may}
 use Rattle.partitions.specs.Case.{
   Case,
@@ -23,6 +25,7 @@ use Rattle.partitions.specs.Case.{
   receives,
   received,
   charges,
+  offers,
 }
 
 -- a partition receives what it asked for in each of its windows inside the run
@@ -31,12 +34,13 @@ Served =
     (c : Case) → Fit (c .plan) → KeepsTypes c → OverFirstPart c → FromFresh c → IsPartition c → ItsWindow c → InsideRun c → DeclinesNowhere c →
     asked c ≤ received c
 
--- 02, request 2: "A parent with C = T, supply or host, gives all slots": under a supply that keeps the types, whoever declines, a whole parent may give every
--- slot to its children
+-- 02, request 2: "A parent with C = T, supply or host, gives all slots": under a supply that keeps the types, whoever declines, a whole parent has every slot
+-- for its children, and with the switch off it may give it
 abbrev pub WholeGivesAll : Type 0
 WholeGivesAll =
-    (c : Case) → Fit (c .plan) → KeepsTypes c → (declines : ℕ → ℕ) (x : Parent) (i : ℕ) → Child (c .plan) x i → isWhole (ownType (c .plan) x) ≡ true →
-    (n : ℕ) → may (c .plan) (c .supply) declines x n ≡ true
+    (c : Case) → Fit (c .plan) → KeepsTypes c → (settings : ℕ → Setting) (declines : ℕ → ℕ) (x : Parent) (i : ℕ) → Child (c .plan) x i →
+    isWhole (ownType (c .plan) x) ≡ true → (n : ℕ) →
+    (offers (c .plan) settings (c .supply) declines x n ≡ true) × (settings n ≡ Off → may (c .plan) settings (c .supply) declines x n ≡ true)
 
 -- no partition is granted more than its served number in a served period, or in so much of one as lies inside the run, under any supply
 abbrev pub NeverServedMore : Type 0
@@ -46,11 +50,11 @@ NeverServedMore =
     (b n : ℕ) → n ≤ T → b * T + n ≤ length (c .supplies) →
     ones (receives (c .plan) (c .buffer) (c .partition)) (b * T) n ≤ servedOf (c .plan) (c .partition) .c
 
--- and no node, partition or host, is charged more than that in a served period or in so much of one, under any supply and whoever declines
+-- and no node, partition or host, is charged more than that in a served period or in so much of one, whatever the settings, under any supply and whoever declines
 abbrev pub NeverChargedMore : Type 0
 NeverChargedMore =
-    (plan : Plan) → Fit plan → (supply declines : ℕ → ℕ) (i b n : ℕ) → There plan i → n ≤ servedOf plan i .t →
-    ones (charged plan supply declines i) (b * servedOf plan i .t) n ≤ servedOf plan i .c
+    (plan : Plan) → Fit plan → (settings : ℕ → Setting) (supply declines : ℕ → ℕ) (i b n : ℕ) → There plan i → n ≤ servedOf plan i .t →
+    ones (charged plan settings supply declines i) (b * servedOf plan i .t) n ≤ servedOf plan i .c
 
 -- What a node is charged is told by the state that is reached: after slot b·T + a of the run, the run's last, its left and what it was charged since slot b·T
 -- are together its served C.

@@ -1,4 +1,4 @@
--- What specs/Needed.antt and specs/Whole.antt say holds: the checker computes the plans from their bytes, and each run. Assumes nothing.
+-- What specs/Needed.antt, specs/Whole.antt and specs/Switch.antt say holds: the checker computes the plans from their bytes, and each run. Assumes nothing.
 use Prim.Native.Nat.{ℕ, zero, suc, _*_, _%_, _≤_, _<_}
 use mathlib.Core.Bool.{Bool, true, false, not, cond, true≢false}
 use mathlib.Core.List.{List, [], _∷_}
@@ -34,11 +34,14 @@ use Rattle.names.specs.Names.{isLength, isLetter, letterAt, checkLetter, agrees
 use Rattle.reader.specs.Read as read
 use Rattle.reader.specs.Read.{readPlan}
 use Rattle.dispatch.specs.View.{bitOf, isLeaf, servedC, servedT}
-use Rattle.dispatch.specs.Choice.{eligible, prefer, consider, chooseTo, choose}
+use Rattle.dispatch.specs.Choice.{takes, eligible, prefer, consider, chooseTo, choose}
+use Rattle.dispatch.specs.Passed.{isNobody, passedTo, passedOver}
 use Rattle.dispatch.specs.Slot.{due, refillOne, refillTo, refilled, charge, follow, walk, granting, serveCore, serveTo, slot}
 use Rattle.dispatch.specs.Run as run
 use Rattle.dispatch.specs.Run.{done, started, ran, outAfter}
 use Rattle.dispatch.specs.Reached.{Reached, at-start, by-run, by-step}
+use Rattle.dispatch.specs.declared.Setting.{Setting}
+use Rattle.dispatch.specs.declared.Setting.the-variants.{Off, On}
 use Rattle.unending.specs.Unending.{leftAt, slotAt, has, charged}
 use Rattle.partitions.specs.Case.{Case, slotsOf, KeepsTypes, OverFirstPart, FromFresh, ItsWindow, InsideRun, DeclinesNowhere, asked, receives, received}
 use Rattle.partitions.proofs.Kept.{one-run-too}
@@ -63,6 +66,7 @@ use Rattle.guarantee.specs.Needed.{
   OffMultiple,
 }
 use Rattle.guarantee.specs.Whole.{customer, shorter, hosted, WholeServed, NewlyAccepted, NotQuiteWhole, OverfullByOne}
+use Rattle.guarantee.specs.Switch.{doorGains, SiblingGains, VainUncharged, four, fourOff, fourOn, fourMixed, BothServed, NotEveryGrant}
 
 -- every core's bit is set in 255
 core-always : (s : ℕ) → s < 8 → (n : ℕ) → slotsOf always s n ≡ true
@@ -101,8 +105,8 @@ odd-keeps (suc (suc s)) l b starts = absurd (omega arith)
 begins : List ℕ → (ℕ → ℕ) → ℕ → Bool
 begins supplies supply k = eqb (supply k) (getD supplies k 0)
 
-takes : List ℕ → ℕ → ℕ → Bool
-takes declines i k = not (bitOf (getD declines k 0) i)
+willing : List ℕ → ℕ → ℕ → Bool
+willing declines i k = not (bitOf (getD declines k 0) i)
 
 -- a run over the first part of a supply, by a test of each slot
 first-by-test : (c : Case) → all (begins (c .supplies) (c .supply)) (length (c .supplies)) ≡ true → OverFirstPart c
@@ -110,10 +114,10 @@ unfolding begins
 first-by-test c e k l = eqb-true (c .supply k) (getD (c .supplies) k 0) (all-true-at (begins (c .supplies) (c .supply)) (length (c .supplies)) e k l)
 
 -- a leaf that declines nowhere in the run, by a test of each slot
-accepting : (c : Case) → all (takes (c .declines) (c .partition)) (length (c .declines)) ≡ true → DeclinesNowhere c
-unfolding takes
+accepting : (c : Case) → all (willing (c .declines) (c .partition)) (length (c .declines)) ≡ true → DeclinesNowhere c
+unfolding willing
 accepting c e x y l a b _ =
-    not-true (bitOf (getD (c .declines) x 0) (c .partition)) (all-true-at (takes (c .declines) (c .partition)) (length (c .declines)) e x l)
+    not-true (bitOf (getD (c .declines) x 0) (c .partition)) (all-true-at (willing (c .declines) (c .partition)) (length (c .declines)) e x l)
 
 -- what is computed of a case: how the plan's bytes are read, whether the run is over the first part of the supply, whether the partition is there and a host,
 -- and the partition's numbers
@@ -153,27 +157,30 @@ basis c from e =
     }
 
 -- one run into ten bytes of 9, which is neither a node nor 254 or 255, or into as many as there are answers
-by-one : (c : Case) (out : List ℕ) → ran (c .plan) (started (c .plan) .state) (c .supplies) (c .declines) (length out) .outcome ≡ done →
-    c .buffer ≡ outAfter (c .plan) (started (c .plan) .state) (c .supplies) (c .declines) out → FromFresh c
-by-one c out e h = one-run-too c (record { out = out; ends = e; holds = h })
+by-one : (c : Case) (setting : Setting) (out : List ℕ) → c .settings ≡ replicate (length (c .supplies)) setting →
+    ran setting (c .plan) (started (c .plan) .state) (c .supplies) (c .declines) (length out) .outcome ≡ done →
+    c .buffer ≡ outAfter setting (c .plan) (started (c .plan) .state) (c .supplies) (c .declines) out → FromFresh c
+by-one c setting out set e h = one-run-too c (record { setting = setting; out = out; set = set; ends = e; holds = h })
 
 -- and such a run with every core supplied throughout, in which the partition never declines, meets every hypothesis
-served : (c : Case) {asks gets : ℕ} (out : List ℕ) → ran (c .plan) (started (c .plan) .state) (c .supplies) (c .declines) (length out) .outcome ≡ done →
-    c .buffer ≡ outAfter (c .plan) (started (c .plan) .state) (c .supplies) (c .declines) out →
+served : (c : Case) {asks gets : ℕ} (setting : Setting) (out : List ℕ) → c .settings ≡ replicate (length (c .supplies)) setting →
+    ran setting (c .plan) (started (c .plan) .state) (c .supplies) (c .declines) (length out) .outcome ≡ done →
+    c .buffer ≡ outAfter setting (c .plan) (started (c .plan) .state) (c .supplies) (c .declines) out →
     look c ≡ record { answer = accepted; value = c .plan; first = true; there = true; host = false; asks = asks; gets = gets } →
-    sound (c .plan) ≡ true → c .supply ≡ always → all (takes (c .declines) (c .partition)) (length (c .declines)) ≡ true → ItsWindow c → InsideRun c →
+    sound (c .plan) ≡ true → c .supply ≡ always → all (willing (c .declines) (c .partition)) (length (c .declines)) ≡ true → ItsWindow c → InsideRun c →
     Meets c asks gets
-served c out ends holds seen kept full takes window inside =
+served c setting out set ends holds seen kept full accepts window inside =
     record {
-      basis = basis c (by-one c out ends holds) seen;
+      basis = basis c (by-one c setting out set ends holds) seen;
       supplied = always-keeps c kept full;
       window = window;
       inside = inside;
-      nowhere = accepting c takes;
+      nowhere = accepting c accepts;
     }
 
 -- every case is computed
-computed : NotEmpty × BoundsReached × ShortSupply × DeclinedOnce × OutsideRun × OffMultiple × WholeServed × NotQuiteWhole × OverfullByOne
+computed : NotEmpty × BoundsReached × ShortSupply × DeclinedOnce × OutsideRun × OffMultiple × WholeServed × NotQuiteWhole × OverfullByOne × SiblingGains ×
+    VainUncharged × BothServed × NotEveryGrant
 unfolding
     inRange isFit ones lowest wellFormed written judged step turns onesFrom onesAt leastOnes placed accepts first test each
     nodeAt supplyAt hosting isHost wantedAs ownType same isChild all allows parentAllowed upTo within soundNode soundSupply counts sound
@@ -185,14 +192,14 @@ unfolding
     isLength isLetter letterAt checkLetter agreesAt sameName differs isNew checkName checkNames
     read.checkPart read.checkTick read.checkCount read.checkSupply read.checkSupplies read.checkKind read.checkParent read.checkNode read.checkNodes
     read.checkEnd read.checkBytes read.readAnswer read.readPlan
-    bitOf isLeaf servedC servedT eligible prefer consider chooseTo choose
+    bitOf isLeaf servedC servedT takes eligible prefer consider chooseTo choose isNobody passedTo passedOver
     due refillOne refillTo refilled charge follow walk granting serveCore serveTo slot
-    run.freshTo run.freshLeft run.started run.leftWithin run.ready run.roomy run.inTime run.outcome run.courseTo run.course run.ran run.outAfter run.stepped
-    leftAt slotAt has charged slotsOf receives begins takes look
+    run.freshTo run.freshLeft run.started run.leftWithin run.ready run.roomy run.inTime run.outcome run.courseTo run.courseBy run.course run.ran run.outAfter run.stepped
+    leftAt slotAt has charged slotsOf receives begins willing look
 computed = (
   (
-    served logServed (replicate 10 9) refl refl refl refl refl refl (0, refl) (omega arith),
-    served doorServed (replicate 10 9) refl refl refl refl refl refl tt (omega arith),
+    served logServed Off (replicate 10 9) refl refl refl refl refl refl refl (0, refl) (omega arith),
+    served doorServed Off (replicate 10 9) refl refl refl refl refl refl refl tt (omega arith),
     record {
       basis = basis duoServed (record { state = _; answers = _; beyond = []; reached = three; holds = refl }) refl;
       supplied = odd-keeps;
@@ -203,45 +210,67 @@ computed = (
   ),
   (refl, refl),
   (
-    basis supplyShort (by-one supplyShort (replicate 10 9) refl refl) refl,
+    basis supplyShort (by-one supplyShort Off (replicate 10 9) refl refl refl) refl,
     λ keeps. omega (arith, keeps 0 (omega arith) 2 (2, refl)),
     tt,
     omega arith,
     accepting supplyShort refl,
   ),
   (
-    basis doorDeclines (by-one doorDeclines (replicate 10 9) refl refl) refl,
+    basis doorDeclines (by-one doorDeclines Off (replicate 10 9) refl refl refl) refl,
     always-keeps doorDeclines refl refl,
     tt,
     omega arith,
     λ accepts. true≢false (accepts 2 2 (omega arith) (omega arith) (omega arith) refl),
   ),
   (
-    basis runEnds (by-one runEnds (replicate 10 9) refl refl) refl,
+    basis runEnds (by-one runEnds Off (replicate 10 9) refl refl refl) refl,
     always-keeps runEnds refl refl,
     tt,
     λ inside. omega arith,
     accepting runEnds refl,
   ),
   (
-    basis betweenWindows (by-one betweenWindows (replicate 4 9) refl refl) refl,
+    basis betweenWindows (by-one betweenWindows Off (replicate 4 9) refl refl refl) refl,
     always-keeps betweenWindows refl refl,
     λ starts. omega (arith, starts .1),
     omega arith,
     accepting betweenWindows refl,
   ),
   (
-    served customer (replicate 12 9) refl refl refl refl refl refl (1, refl) (omega arith),
-    served shorter (replicate 12 9) refl refl refl refl refl refl (5, refl) (omega arith),
-    served hosted (replicate 12 9) refl refl refl refl refl refl (1, refl) (omega arith),
+    served customer Off (replicate 12 9) refl refl refl refl refl refl refl (1, refl) (omega arith),
+    served shorter Off (replicate 12 9) refl refl refl refl refl refl refl (5, refl) (omega arith),
+    served hosted Off (replicate 12 9) refl refl refl refl refl refl refl (1, refl) (omega arith),
   ),
   (refl, refl, refl, refl, refl),
   refl,
+  (
+    served doorServed Off (replicate 10 9) refl refl refl refl refl refl refl tt (omega arith),
+    served doorGains On (replicate 10 9) refl refl refl refl refl refl refl tt (omega arith),
+  ),
+  (refl, refl),
+  (
+    served fourOff Off (replicate 4 9) refl refl refl refl refl refl refl (0, refl) (omega arith),
+    served fourOn On (replicate 4 9) refl refl refl refl refl refl refl (0, refl) (omega arith),
+    record {
+      basis = basis fourMixed (record { state = _; answers = _; beyond = []; reached = mixed; holds = refl }) refl;
+      supplied = always-keeps fourMixed refl refl;
+      window = (0, refl);
+      inside = omega arith;
+      nowhere = accepting fourMixed refl;
+    },
+  ),
+  (refl, refl),
 )
   where
     -- a run of one, a step, and a run of two
-    three : Reached duo (record { clock = 4; left = 0 ∷ 0 ∷ replicate 62 0 }) (1 ∷ 3 ∷ 1 ∷ 3 ∷ []) (replicate 4 0) (0 ∷ 255 ∷ 254 ∷ 1 ∷ 0 ∷ 255 ∷ 254 ∷ 1 ∷ [])
-    three = by-run (by-step (by-run (at-start refl) (1 ∷ []) (0 ∷ []) (replicate 2 9) refl) 3 0 refl) (1 ∷ 3 ∷ []) (0 ∷ 0 ∷ []) (replicate 4 9) refl
+    three : Reached duo (record { clock = 4; left = 0 ∷ 0 ∷ replicate 62 0 }) (replicate 4 Off) (1 ∷ 3 ∷ 1 ∷ 3 ∷ []) (replicate 4 0) (0 ∷ 255 ∷ 254 ∷ 1 ∷ 0 ∷ 255 ∷ 254 ∷ 1 ∷ [])
+    three =
+        by-run (by-step (by-run (at-start refl) Off (1 ∷ []) (0 ∷ []) (replicate 2 9) refl) Off 3 0 refl) Off (1 ∷ 3 ∷ []) (0 ∷ 0 ∷ []) (replicate 4 9) refl
+
+    -- a step with the switch on, a step with it off, and a run with it on
+    mixed : Reached four (record { clock = 4; left = replicate 64 0 }) (On ∷ Off ∷ On ∷ On ∷ []) (replicate 4 255) (2 ∷ 4 ∷ 0 ∷ 0 ∷ []) (2 ∷ 1 ∷ 3 ∷ 254 ∷ [])
+    mixed = by-run (by-step (by-step (at-start refl) On 255 2 refl) Off 255 4 refl) On (255 ∷ 255 ∷ []) (0 ∷ 0 ∷ []) (replicate 2 9) refl
 
 -- demand 3 is not empty
 pub not-empty : NotEmpty
@@ -287,3 +316,19 @@ not-quite-whole = computed .7
 -- and so is one slot more than a whole parent has
 pub overfull-by-one : OverfullByOne
 overfull-by-one = computed .8
+
+-- a sibling gains what a host's partitions leave
+pub sibling-gains : SiblingGains
+sibling-gains = computed .9
+
+-- and the host, passed in vain, is not charged for it
+pub vain-uncharged : VainUncharged
+vain-uncharged = computed .10
+
+-- under both settings, and under a mixture, a partition receives what it asked for
+pub both-served : BothServed
+both-served = computed .11
+
+-- though not every grant stays
+pub not-every-grant : NotEveryGrant
+not-every-grant = computed .12

@@ -3,6 +3,7 @@
 use lib.ListN.{getD}
 use Rattle.rules.specs.Fit.{Fit}
 use Rattle.reader.proofs.Kept.{hands-out-fit}
+use Rattle.dispatch.specs.declared.Setting.the-variants.{Off}
 use Rattle.partitions.specs.Case.{Case}
 use Rattle.partitions.proofs.Kept.{served, never-served-more, never-charged-more}
 use Rattle.guarantee.specs.Promises.{Accepted, Guarantee, NeverMore, NeverCharged}
@@ -22,4 +23,4 @@ never-more c a = never-served-more c (accepted-fit c a)
 -- and no node is charged more
 pub never-charged : NeverCharged
 never-charged c a from i l b n part inside =
-    never-charged-more (c .plan) (accepted-fit c a) (λ k. getD (c .supplies) k 0) (λ k. getD (c .declines) k 0) i b n l part
+    never-charged-more (c .plan) (accepted-fit c a) (λ k. getD (c .settings) k Off) (λ k. getD (c .supplies) k 0) (λ k. getD (c .declines) k 0) i b n l part

@@ -1,3 +1,4 @@
 pub mod Promises
 pub mod Needed
 pub mod Whole
+pub mod Switch

@@ -1,11 +1,11 @@
--- Demand 3 is not empty, its bounds are reached, and each of its hypotheses is needed: short runs of three small plans, with the numbers that they give. Why
--- each statement holds is in proofs/. Assumes nothing.
+-- Demand 3 is not empty, its bounds are reached, and each of its hypotheses is needed: short runs of three small plans with the switch off, and the numbers that
+-- they give. Why each statement holds is in proofs/. Assumes nothing.
 use Prim.Native.Nat.{ℕ, _%_, _*_}
 use mathlib.Core.Bool.{cond}
 use mathlib.Core.List.{List, [], _∷_, _++_}
 use mathlib.Core.Path.{_≡_}
 use lib.Dec.{eqb}
-use lib.ListN.{replicate}
+use lib.ListN.{length, replicate}
 use Rattle.meaning.specs.Allocation.{ones}
 use Rattle.meaning.specs.Types.{_of_}
 use Rattle.plans.specs.Plan.{zeroType, zeroNode, servedOf}
@@ -13,6 +13,8 @@ use Rattle.plans.specs.declared.Node.{Node}
 use Rattle.plans.specs.declared.NodeKind.the-variants.{AlignedLeaf, SlidingLeaf, Host}
 use Rattle.plans.specs.declared.Parent.the-variants.{Supply, Node as Under}
 use Rattle.plans.specs.declared.Plan.{Plan}
+use Rattle.dispatch.specs.declared.Setting.{Setting}
+use Rattle.dispatch.specs.declared.Setting.the-variants.{Off}
 use Rattle.partitions.specs.Case.{
   Case,
   KeepsTypes,
@@ -84,13 +86,14 @@ bus =
           replicate 61 zeroNode;
     }
 
--- Ten slots of that plan, and the first window of one of its leaves.
-abbrev pub onBus : (ℕ → ℕ) → List ℕ → List ℕ → List ℕ → ℕ → Case
-onBus supply supplies declines buffer leaf =
+-- Ten slots of that plan with one setting, and the first window of one of its leaves.
+abbrev pub onBus : Setting → (ℕ → ℕ) → List ℕ → List ℕ → List ℕ → ℕ → Case
+onBus setting supply supplies declines buffer leaf =
     record {
       bytes = busBytes;
       plan = bus;
       supply = supply;
+      settings = replicate (length supplies) setting;
       supplies = supplies;
       declines = declines;
       buffer = buffer;
@@ -100,11 +103,11 @@ onBus supply supplies declines buffer leaf =
 
 -- Nobody declines for ten slots: `log` asked for 1 slot in 9 and receives slots 0, 4 and 8.
 abbrev pub logServed : Case
-logServed = onBus always (replicate 10 255) (replicate 10 0) (1 ∷ 254 ∷ 2 ∷ 2 ∷ 1 ∷ 254 ∷ 2 ∷ 2 ∷ 1 ∷ 254 ∷ []) 1
+logServed = onBus Off always (replicate 10 255) (replicate 10 0) (1 ∷ 254 ∷ 2 ∷ 2 ∷ 1 ∷ 254 ∷ 2 ∷ 2 ∷ 1 ∷ 254 ∷ []) 1
 
 -- `log` declines in every slot: `door` asked for 4 in 10 and receives slots 2, 3, 6 and 7.
 abbrev pub doorServed : Case
-doorServed = onBus always (replicate 10 255) (replicate 10 2) (254 ∷ 254 ∷ 2 ∷ 2 ∷ 254 ∷ 254 ∷ 2 ∷ 2 ∷ 254 ∷ 254 ∷ []) 2
+doorServed = onBus Off always (replicate 10 255) (replicate 10 2) (254 ∷ 254 ∷ 2 ∷ 2 ∷ 254 ∷ 254 ∷ 2 ∷ 2 ∷ 254 ∷ 254 ∷ []) 2
 
 -- Two cores, of which the second is stated as every other slot only, and a leaf with every other slot of each: `a` (node 0) on core 0, `b` (node 1) on core 1.
 abbrev pub duoBytes : List ℕ
@@ -143,6 +146,7 @@ duoServed =
       bytes = duoBytes;
       plan = duo;
       supply = oddToo;
+      settings = replicate 4 Off;
       supplies = 1 ∷ 3 ∷ 1 ∷ 3 ∷ [];
       declines = replicate 4 0;
       buffer = 0 ∷ 255 ∷ 254 ∷ 1 ∷ 0 ∷ 255 ∷ 254 ∷ 1 ∷ [];
@@ -166,7 +170,7 @@ allButSlotTwo n = cond (eqb n 2) 0 255
 
 abbrev pub supplyShort : Case
 supplyShort =
-    onBus allButSlotTwo (255 ∷ 255 ∷ 0 ∷ replicate 7 255) (replicate 10 0) (1 ∷ 254 ∷ 255 ∷ 2 ∷ 1 ∷ 254 ∷ 2 ∷ 2 ∷ 1 ∷ 254 ∷ []) 2
+    onBus Off allButSlotTwo (255 ∷ 255 ∷ 0 ∷ replicate 7 255) (replicate 10 0) (1 ∷ 254 ∷ 255 ∷ 2 ∷ 1 ∷ 254 ∷ 2 ∷ 2 ∷ 1 ∷ 254 ∷ []) 2
 
 abbrev pub ShortSupply : Type 0
 ShortSupply =
@@ -175,7 +179,7 @@ ShortSupply =
 -- `door` declines in slot 2, and its served period has only slot 3 left for it.
 abbrev pub doorDeclines : Case
 doorDeclines =
-    onBus always (replicate 10 255) (0 ∷ 0 ∷ 4 ∷ replicate 7 0) (1 ∷ 254 ∷ 254 ∷ 2 ∷ 1 ∷ 254 ∷ 2 ∷ 2 ∷ 1 ∷ 254 ∷ []) 2
+    onBus Off always (replicate 10 255) (0 ∷ 0 ∷ 4 ∷ replicate 7 0) (1 ∷ 254 ∷ 254 ∷ 2 ∷ 1 ∷ 254 ∷ 2 ∷ 2 ∷ 1 ∷ 254 ∷ []) 2
 
 abbrev pub DeclinedOnce : Type 0
 DeclinedOnce =
@@ -183,7 +187,7 @@ DeclinedOnce =
 
 -- The run ends after seven slots, and the rest of the buffer is as it was: 9 is neither a node nor 254 or 255.
 abbrev pub runEnds : Case
-runEnds = onBus always (replicate 7 255) (replicate 7 0) (1 ∷ 254 ∷ 2 ∷ 2 ∷ 1 ∷ 254 ∷ 2 ∷ 9 ∷ 9 ∷ 9 ∷ []) 2
+runEnds = onBus Off always (replicate 7 255) (replicate 7 0) (1 ∷ 254 ∷ 2 ∷ 2 ∷ 1 ∷ 254 ∷ 2 ∷ 9 ∷ 9 ∷ 9 ∷ []) 2
 
 abbrev pub OutsideRun : Type 0
 OutsideRun = Basis runEnds 4 3 × KeepsTypes runEnds × ItsWindow runEnds × (InsideRun runEnds → ⊥) × DeclinesNowhere runEnds
@@ -221,6 +225,7 @@ betweenWindows =
       bytes = pairBytes;
       plan = pair;
       supply = always;
+      settings = replicate 4 Off;
       supplies = replicate 4 255;
       declines = 1 ∷ 0 ∷ 0 ∷ 0 ∷ [];
       buffer = 1 ∷ 0 ∷ 0 ∷ 1 ∷ [];

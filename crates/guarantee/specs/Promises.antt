@@ -1,7 +1,8 @@
 -- Demand 3. "Take an accepted plan, started fresh, and any unending supply that gives each core its stated slots in every aligned period, whoever declines.
 -- In any run over its first part, a partition receives at least the slots it asked for in every one of its windows that lies inside the run, provided it
 -- declines in no slot of its served periods that touch that window. No partition or virtual host is ever granted more than its served number in one
--- aligned served period, even where the supply falls short." Why each holds is in proofs/. Assumes nothing.
+-- aligned served period, even where the supply falls short." It holds for both settings of document 02, request 12, each call with one of its own: a case has a
+-- setting for each slot. Why each holds is in proofs/. Assumes nothing.
 use Prim.Native.Nat.{ℕ, _+_, _*_, _≤_}
 use mathlib.Core.Path.{_≡_}
 use lib.ListN.{length}

@@ -1,4 +1,4 @@
--- Document 02, request 2, at work: plans with whole parents, each run for twelve slots with every core supplied and nobody declining, and what demand 3
+-- Document 02, request 2, at work: plans with whole parents, each run for twelve slots with every core supplied, nobody declining and the switch off, and what demand 3
 -- comes to in them; and the same plans with one number changed, refused. Why each statement holds is in proofs/. Assumes nothing.
 use Prim.Native.Nat.{ℕ}
 use mathlib.Core.List.{List, [], _∷_, _++_}
@@ -15,6 +15,7 @@ use Rattle.plans.specs.declared.Parent.the-variants.{Supply, Node as Under}
 use Rattle.plans.specs.declared.Plan.{Plan}
 use Rattle.rules.specs.Before.{FitBefore}
 use Rattle.reader.specs.Read.{readPlan}
+use Rattle.dispatch.specs.declared.Setting.the-variants.{Off}
 use Rattle.partitions.specs.Case.{Case}
 use Rattle.guarantee.specs.Needed.{Meets, always}
 
@@ -39,6 +40,7 @@ twelve bytes plan buffer leaf window =
       bytes = bytes;
       plan = plan;
       supply = always;
+      settings = replicate 12 Off;
       supplies = replicate 12 255;
       declines = replicate 12 0;
       buffer = buffer;

@@ -64,14 +64,7 @@ fn period(plan: Plan, i: usize) -> u16
     plans::node_at(plan, i).served.t
 }
 
-fn is_eligible(
-    plan: Plan,
-    left: [u16; 64],
-    declines: u64,
-    takers: u64,
-    x: Parent,
-    i: usize,
-) -> bool
+fn is_eligible(plan: Plan, left: [u16; 64], declines: u64, takers: u64, x: Parent, i: usize) -> bool
     requires { ⌜ i < 64 ⌝ }
     ensures { λ r. ⌜ r ≡ eligible (viewOf plan) left (told (viewOf plan) declines takers) x i ⌝ }
 {

@@ -42,14 +42,7 @@ pub fn serve(
 }
 
 // Core s, where it is supplied: one grant is replaced.
-fn serve_core(
-    plan: Plan,
-    supplied: u8,
-    declines: u64,
-    takers: u64,
-    so: Served,
-    s: usize,
-) -> Served
+fn serve_core(plan: Plan, supplied: u8, declines: u64, takers: u64, so: Served, s: usize) -> Served
     requires { ⌜ (sound plan ≡ true) × (s < 8) ⌝ }
     ensures { λ r. ⌜ slotEnd r ≡ serveCore (viewOf plan) supplied (told (viewOf plan) declines takers) (slotEnd so) s ⌝ }
 {
@@ -65,14 +58,7 @@ fn serve_core(
 }
 
 // The walk down from parent x: the levels to go fall at each call.
-fn descend(
-    plan: Plan,
-    declines: u64,
-    takers: u64,
-    levels: u8,
-    x: Parent,
-    left: [u16; 64],
-) -> Walked
+fn descend(plan: Plan, declines: u64, takers: u64, levels: u8, x: Parent, left: [u16; 64]) -> Walked
     requires { ⌜ sound plan ≡ true ⌝ }
     ensures { λ r. ⌜ walkEnd r ≡ walk (viewOf plan) (told (viewOf plan) declines takers) levels x left ⌝ }
 {

@@ -110,9 +110,9 @@ def least(node):
 
 
 def slot_line(plan, value, state, n):
-    """Number, start, and per supply the leaf, `-` idle or `x` not supplied; all cores supplied and nobody declining."""
+    """Number, start, and per supply the leaf, `-` idle or `x` not supplied; all cores supplied, nobody declining, request 12's switch off."""
     shown = {slots.IDLE: "-", slots.NOT_SUPPLIED: "x"}
-    answers = [shown.get(answer, str(answer)) for answer in slots.slot(value, state, 0xff, 0)]
+    answers = [shown.get(answer, str(answer)) for answer in slots.slot(slots.OFF, value, state, 0xff, 0)]
     return f"slot {n} {floor(n * Fraction(plan.P, plan.Q))} {' '.join(answers)}"
 
 

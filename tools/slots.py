@@ -1,19 +1,30 @@
 #!/usr/bin/env python3
-"""Giving out slots from the sentences of document 01, "Giving out slots". It knows nothing of the crates; plans and rules are those of tools/plans.py.
+"""Giving out slots from the sentences of document 01, "Giving out slots", and of document 02, request 12. It knows nothing of the crates; plans and
+rules are those of tools/plans.py.
 
   python3 tools/slots.py cases          the cases of crates/vectors_dispatch/stdin, one a line
   python3 tools/slots.py expect         what the program of that crate has to print
-  python3 tools/slots.py check          demand 3 tried on plans with whole parents, with declines that follow no pattern (seconds)
+  python3 tools/slots.py check          demand 3 tried with the switch off, on, and set anew for each slot, and where it is on that nothing is wasted;
+                                        with plans (whole parents among them), supplies and declines that follow no pattern (seconds)
 
-A case is a label, an accepted plan in hex digits, any number of edits `with WHAT INDEX VALUE`, and what is done: `fresh`, or `run` with supply bytes
-(hex), decline words (hex, a comma between two) and room, or `demand` with the same, or `steps` with supply bytes and decline words; `-` stands for
-none. The state is the plan's fresh one. An edit changes the plan value (P, Q, the numbers S of supplies and N of nodes, supply, kind, parent, wants,
-gets) or the state (clock, left).
+A case is a label, an accepted plan in hex digits, any number of edits `with WHAT INDEX VALUE`, and what is done:
+
+  fresh
+  run SETTING SUPPLIES DECLINES ROOM
+  demand SETTING SUPPLIES DECLINES ROOM
+  steps SETTINGS SUPPLIES DECLINES
+  mixed SETTINGS SUPPLIES DECLINES ROOM
+
+SETTING is `off` or `on`. SETTINGS has a digit for each slot, 0 for off and 1 for on. Supply bytes are in hex digits, decline words too, with a comma
+between two; `-` stands for none. The state is the plan's fresh one. An edit changes the plan value (P, Q, the numbers S of supplies and N of nodes,
+supply, kind, parent, wants, gets) or the state (clock, left).
 What comes of it is printed as outcome, clock, the counts left (of all nodes, and on to the last that is not 0) and the room: a leaf, `-` idle, `x` not
 supplied, `.` not written; a comma stands between the cores of a slot. Of steps the outcome and eight answers of each come first. `demand` is a run
-and then, for each leaf, its wanted type and how many slots it received in each of its wanted windows inside the run.
+and then, for each leaf, its wanted type and how many slots it received in each of its wanted windows inside the run. `mixed` makes a call for each
+stretch of slots with one setting, a step for a single slot and otherwise a run, each from the state and behind the answers of the one before. Its
+calls with their outcomes come first, and what each leaf received last.
 """
-import random, sys
+import collections, itertools, random, sys
 
 sys.dont_write_bytecode = True
 import pairs
@@ -22,6 +33,7 @@ from plans import (EXAMPLE, WHOLE_CORE, WHOLE_HOST, Node, Plan, Refused, chain, 
 
 LAST = 2 ** 40
 IDLE, NOT_SUPPLIED, NOT_WRITTEN = 254, 255, 200
+OFF, ON = SETTINGS = 0, 1
 
 
 class Value:
@@ -74,40 +86,62 @@ def refusal(value, state, supplied, declined, room):
     return 15 if state.clock + len(supplied) > LAST else 0
 
 
-def run(value, state, supplied, declined, room):
+def run(setting, value, state, supplied, declined, room):
     """The outcome and the room; the state is moved on."""
     outcome = refusal(value, state, supplied, declined, room)
     answers = []
     if outcome == 0:
         for supply, decline in zip(supplied, declined):
-            answers += slot(value, state, supply, decline)
+            answers += slot(setting, value, state, supply, decline)
     return outcome, answers + [NOT_WRITTEN] * (room - len(answers))
 
 
-def step(value, state, supplied, declined):
+def step(setting, value, state, supplied, declined):
     """A run of one, with eight answers."""
-    outcome, answers = run(value, state, [supplied], [declined], value.cores)
+    outcome, answers = run(setting, value, state, [supplied], [declined], value.cores)
     answers = [] if outcome else answers
     return outcome, answers + [NOT_SUPPLIED] * (8 - len(answers))
 
 
-def slot(value, state, supplied, declined):
-    for i, node in enumerate(value.nodes[:value.size]):
-        if state.clock % node.served[1] == 0:
-            state.left[i] = node.served[0]
+def slot(setting, value, state, supplied, declined):
+    refill(value, state)
     state.clock += 1
+    walk = {OFF: go_down, ON: go_back}[setting]
     return [walk(value, state, k, declined) if supplied >> k & 1 else NOT_SUPPLIED for k in range(value.cores)]
 
 
-def walk(value, state, parent, declined):
-    """Who gets the slot of a parent, named as a parent byte names it."""
-    takers = [(node.served[1], i) for i, node in enumerate(value.nodes[:value.size])
-              if node.parent == parent and state.left[i] > 0 and (node.kind == 2 or not declined >> i & 1)]
-    if not takers:
+def refill(value, state):
+    for i, node in enumerate(value.nodes[:value.size]):
+        if state.clock % node.served[1] == 0:
+            state.left[i] = node.served[0]
+
+
+def takers(value, state, parent, declined):
+    """The children of a parent, named as a parent byte names it, that have slots left, leaves that decline passed over, in the order of choice."""
+    return sorted((i for i, node in enumerate(value.nodes[:value.size])
+                   if node.parent == parent and state.left[i] > 0 and (node.kind == 2 or not declined >> i & 1)),
+                  key=lambda i: (value.nodes[i].served[1], i))
+
+
+def go_down(value, state, parent, declined):
+    """Who gets the slot of a parent by document 01: the first is charged and, if it is a host, the choice is made among its children; hosts already
+    passed stay charged."""
+    order = takers(value, state, parent, declined)
+    if not order:
         return IDLE
-    _, i = min(takers)
+    i = order[0]
     state.left[i] -= 1
-    return walk(value, state, 128 + i, declined) if value.nodes[i].kind == 2 else i
+    return go_down(value, state, 128 + i, declined) if value.nodes[i].kind == 2 else i
+
+
+def go_back(value, state, parent, declined):
+    """Who gets it by request 12: where nobody under a host takes the slot, the host is not charged and the choice goes to the next sibling."""
+    for i in takers(value, state, parent, declined):
+        grant = go_back(value, state, 128 + i, declined) if value.nodes[i].kind == 2 else i
+        if grant != IDLE:
+            state.left[i] -= 1
+            return grant
+    return IDLE
 
 
 # Demand 3
@@ -156,31 +190,58 @@ def demand(value, supplied, declined, answers):
 
 
 class Case:
-    def __init__(self, label, plan, edits, verb, supplied=(), declined=(), room=0):
+    """What is to be done. `setting` is one setting for `run` and `demand`, and a list with one for each slot for `steps` and `mixed`."""
+
+    def __init__(self, label, plan, edits, verb, setting=OFF, supplied=(), declined=(), room=0):
         self.label, self.data, self.edits, self.verb = label, lay(plan), edits, verb
-        self.supplied, self.declined, self.room = supplied, declined, room
+        self.setting, self.supplied, self.declined, self.room = setting, supplied, declined, room
         assert len(supplied) <= 64 and len(declined) <= 64 and room <= 512, label
 
     def line(self):
         words = [self.label, self.data.hex()] + [f"with {edit}" for edit in self.edits] + [self.verb]
         if self.verb != "fresh":
+            words.append(called_setting(self.setting) if self.verb in ("run", "demand") else "".join(map(str, self.setting)))
             words += [bytes(self.supplied).hex() or "-", ",".join(f"{word:x}" for word in self.declined) or "-"]
-        return " ".join(words + ([str(self.room)] if self.verb in ("run", "demand") else []))
+        return " ".join(words + ([str(self.room)] if self.verb in ("run", "demand", "mixed") else []))
 
     def said(self):
+        return f"{self.label}: {self.result()}"
+
+    def result(self):
         value = Value(read(self.data))
         state = fresh(value)[1]
         for edit in self.edits:
             edited(value, state, *edit.split())
-        if self.verb == "fresh":
-            outcome, state = fresh(value)
-            return f"{self.label}: {called(outcome)}, {counted(value, state)}"
-        if self.verb in ("run", "demand"):
-            outcome, room = run(value, state, self.supplied, self.declined, self.room)
-            shown = f"{self.label}: {called(outcome)}, {counted(value, state)}, room{listed(room, value.cores)}"
-            return shown + (self.demanded(value, room) if self.verb == "demand" else "")
-        steps = [step(value, state, *both) for both in zip(self.supplied, self.declined)]
-        return f"{self.label}: " + "".join(f"step {called(outcome)}{listed(eight, 8)}, " for outcome, eight in steps) + counted(value, state)
+        how = {"fresh": self.start, "run": self.one_run, "demand": self.one_run, "steps": self.each_step, "mixed": self.each_call}
+        return how[self.verb](value, state)
+
+    def start(self, value, _):
+        outcome, state = fresh(value)
+        return f"{called(outcome)}, {counted(value, state)}"
+
+    def one_run(self, value, state):
+        outcome, room = run(self.setting, value, state, self.supplied, self.declined, self.room)
+        shown = f"{called(outcome)}, {counted(value, state)}, room{listed(room, value.cores)}"
+        return shown + (self.demanded(value, room) if self.verb == "demand" else "")
+
+    def each_step(self, value, state):
+        steps = [step(setting, value, state, *both) for setting, *both in zip(self.setting, self.supplied, self.declined)]
+        return "".join(f"step {called(outcome)}{listed(eight, 8)}, " for outcome, eight in steps) + counted(value, state)
+
+    def each_call(self, value, state):
+        calls, answers = "", []
+        for setting, stretch in itertools.groupby(zip(self.setting, self.supplied, self.declined), key=lambda slot: slot[0]):
+            _, supplied, declined = zip(*stretch)
+            if len(supplied) == 1:
+                outcome, given = step(setting, value, state, supplied[0], declined[0])
+                calls += f"step {called_setting(setting)} {called(outcome)}, "
+            else:
+                outcome, given = run(setting, value, state, supplied, declined, self.room - len(answers))
+                calls += f"run {called_setting(setting)} {len(supplied)} {called(outcome)}, "
+            assert outcome == 0, self.label
+            answers += given[:len(supplied) * value.cores]
+        room = answers + [NOT_WRITTEN] * (self.room - len(answers))
+        return f"{calls}{counted(value, state)}, room{listed(room, value.cores)}{self.demanded(value, room)}"
 
     def demanded(self, value, answers):
         assert not self.edits and demand(value, self.supplied, self.declined, answers) > 0, self.label
@@ -211,6 +272,10 @@ def edited(value, state, what, index, number):
 
 def called(outcome):
     return f"refused {outcome}" if outcome else "done"
+
+
+def called_setting(setting):
+    return {OFF: "off", ON: "on"}[setting]
 
 
 def counted(value, state):
@@ -261,23 +326,43 @@ aligned m on 2 wants 1/12 gets 1/12
 def cases():
     found = []
 
-    def run_case(label, plan, slots, supply=0xff, decline=0, edits=(), room=None, steps=True):
-        """Slots with the same supply byte and decline word, or with a list of each; as a run, and as steps too."""
+    def run_case(label, plan, slots, supply=0xff, decline=0, edits=(), room=None, steps=True, meant=None, on_label=None):
+        """Slots with the same supply byte and decline word, or with a list of each; as a run, and as steps too; with the switch off, and on.
+        `meant` is what is to be left and to stand in the room, off and on."""
         supplied = supply if isinstance(supply, list) else [supply] * slots
         declined = decline if isinstance(decline, list) else [decline] * slots
-        cores = len(read(lay(plan)).supplies)
-        found.append(Case(label, plan, edits, "run", supplied, declined, slots * cores if room is None else room))
-        if steps and supplied and room is None and len(supplied) == len(declined):
-            found.append(Case(label + "-by-steps", plan, edits, "steps", supplied, declined))
+        plain_steps = steps and supplied and room is None and len(supplied) == len(declined)
+        room = slots * cores_of(plan) if room is None else room
+        labels = label, on_label or label + "-on"
+        runs = [Case(labels[setting], plan, edits, "run", setting, supplied, declined, room) for setting in SETTINGS]
+        same_where_it_must_be(plan, *runs)
+        for each in runs:
+            assert meant is None or each.result().endswith(meant[each.setting]), (each.said(), meant)
+            found.append(each)
+            if plain_steps:
+                found.append(Case(each.label + "-by-steps", plan, edits, "steps", [each.setting] * slots, supplied, declined))
 
-    for group in (plain, declining, supplying, trees, whole_parents, states, refused_plans, refused_runs, orders, varied):
+    for group in (plain, declining, supplying, trees, whole_parents, states, refused_plans, refused_runs, orders, varied, switched):
         group(run_case)
     for label, plan, edits in fresh_starts():
         found.append(Case(label, plan, edits, "fresh"))
     for label, plan, supplied, declined in demands():
-        found.append(Case(label, plan, (), "demand", supplied, declined, len(supplied) * len(read(lay(plan)).supplies)))
+        for setting in SETTINGS:
+            room = len(supplied) * cores_of(plan)
+            found.append(Case(label + ("-on" if setting else ""), plan, (), "demand", setting, supplied, declined, room))
+    found += mixed()
     assert len({case.label for case in found}) == len(found)
     return found
+
+
+def cores_of(plan):
+    return len(read(lay(plan)).supplies)
+
+
+def same_where_it_must_be(plan, off, on):
+    """Without hosts nobody is passed in vain, and a refusal looks at no setting."""
+    if "host" not in plan or off.result().startswith("refused"):
+        assert off.result() == on.result(), off.label
 
 
 def plain(case):
@@ -295,7 +380,7 @@ def plain(case):
 def declining(case):
     case("door-declines-once", EXAMPLE, 8, decline=[0, 0, 4, 0, 0, 0, 0, 0])
     case("door-declines-always", EXAMPLE, 8, decline=4)
-    case("log-declines-always-and-its-host-is-charged", EXAMPLE, 8, decline=2)
+    case("log-declines-always-and-its-host-is-charged", EXAMPLE, 8, decline=2, on_label="log-declines-always-and-its-host-is-not-charged-on")
     case("log-declines-the-first-slot", EXAMPLE, 8, decline=[2, 0, 0, 0, 0, 0, 0, 0])
     case("all-leaves-decline", EXAMPLE, 5, decline=6)
     case("a-host's-decline-bit-is-ignored", EXAMPLE, 8, decline=1)
@@ -325,7 +410,7 @@ def trees(case):
     case("depth-8-the-leaf-declines", chain(8), 4, decline=0x80)
     case("depth-8-a-host-at-the-end", chain(8, "host"), 4)
     case("depth-8-every-host's-bit-set", chain(8), 4, decline=0x7f)
-    case("idle-hosts-stay-charged", TREE, 16, decline=0b100)
+    case("idle-hosts-stay-charged", TREE, 16, decline=0b100, on_label="idle-hosts-are-not-charged-on")
     case("tree", TREE, 24)
 
 
@@ -444,8 +529,8 @@ def orders(case):
     case("16-before-17-and-15", EXAMPLE, 2, edits=(bad, last), room=0)
 
 
-def varied(case):
-    """Supplies and declines that follow no pattern, from a plain generator of numbers."""
+def numbers():
+    """A plain generator of numbers of so many bits, the same for ever."""
     seed = 1
 
     def number(bits):
@@ -453,11 +538,134 @@ def varied(case):
         seed = (seed * 6364136223846793005 + 1442695040888963407) % 2 ** 64
         return seed >> (64 - bits)
 
+    return number
+
+
+def varied(case):
+    """Supplies and declines that follow no pattern."""
+    number = numbers()
     plans = ("example", EXAMPLE, 48), ("two-cores", TWO, 48), ("tree", TREE, 48), ("eight-cores", EIGHT, 32), ("depth-8", chain(8), 16)
     for name, plan, slots in plans:
         for turn in range(2):
             supplied = [number(8) | number(8) for _ in range(slots)]
             case(f"varied-{name}-{turn}", plan, slots, supply=supplied, decline=[number(64) & number(64) for _ in range(slots)], steps=turn == 0)
+
+
+BESIDE = """\
+supply 1/1
+host a on 0 wants 1/4 gets 1/4
+aligned b in a wants 1/4 gets 1/4
+aligned c on 0 wants 1/4 gets 1/4
+aligned d on 0 wants 1/4 gets 1/4
+"""
+LADDER = """\
+supply 1/1
+host a on 0 wants 3/4 gets 3/4
+host b in a wants 2/4 gets 2/4
+host c in b wants 1/4 gets 1/4
+aligned d in c wants 1/4 gets 1/4
+aligned e in b wants 1/4 gets 1/4
+aligned f in a wants 1/4 gets 1/4
+aligned g on 0 wants 1/4 gets 1/4
+"""
+TWO_HOSTS = """\
+supply 1/1
+host a on 0 wants 1/4 gets 1/4
+host b on 0 wants 1/4 gets 1/4
+aligned c in a wants 1/4 gets 1/4
+aligned d in b wants 1/4 gets 1/4
+aligned e on 0 wants 1/4 gets 1/4
+"""
+BETWEEN = """\
+supply 1/1
+host a on 0 wants 2/4 gets 2/4
+host b in a wants 1/4 gets 1/4
+aligned c in b wants 2/8 gets 2/8
+aligned d on 0 wants 1/4 gets 1/4
+"""
+ORDERED = """\
+supply 1/1
+aligned a on 0 wants 1/8 gets 1/8
+host b on 0 wants 1/4 gets 1/4
+aligned c in b wants 1/4 gets 1/4
+aligned d on 0 wants 1/4 gets 1/4
+aligned e on 0 wants 1/4 gets 1/4
+"""
+PERIODS = """\
+supply 1/1
+host a on 0 wants 1/2 gets 1/2
+aligned b in a wants 1/2 gets 1/2
+aligned c on 0 wants 1/8 gets 1/8
+aligned d on 0 wants 1/4 gets 1/4
+"""
+CORES = """\
+supply 1/1
+supply 1/1
+host a on 0 wants 1/2 gets 1/2
+aligned b in a wants 1/2 gets 1/2
+aligned c on 0 wants 1/2 gets 1/2
+host d on 1 wants 1/2 gets 1/2
+aligned e in d wants 1/2 gets 1/2
+aligned f on 1 wants 1/2 gets 1/2
+"""
+
+
+SWITCHED = (  # a plan and decline words; what is left and who has each slot, worked out by hand, with the switch off and on
+    ("in-vain-as-its-leaf-declines", BESIDE, [2, 4, 0, 0], "left 0 1 0 0, room - 3 2 -", "left 0 0 0 0, room 2 1 3 -"),
+    ("in-vain-as-its-leaf-has-nothing-left", EXAMPLE, [0] * 4, "left 0 0 0, room 1 - 2 2", "left 1 0 0, room 1 2 2 -"),
+    ("in-vain-as-a-host-between-has-nothing-left", BETWEEN, [0] * 4, "left 0 0 1 0, room 2 - 3 -", "left 1 0 1 0, room 2 3 - -"),
+    ("in-vain-and-the-slots-of-a-new-period", BETWEEN, [0] * 8, "left 0 0 0 0, room 2 - 3 - 2 - 3 -", "left 1 0 0 0, room 2 3 - - 2 3 - -"),
+    ("in-vain-and-its-own-bit-set", BESIDE, [3, 4, 0, 0], "left 0 1 0 0, room - 3 2 -", "left 0 0 0 0, room 2 1 3 -"),
+    ("only-the-host's-own-bit-set", BESIDE, [1, 1, 1, 1], "left 0 0 0 0, room 1 2 3 -", "left 0 0 0 0, room 1 2 3 -"),
+    ("two-hosts-in-vain-and-then-a-leaf", TWO_HOSTS, [12, 4, 0, 0], "left 0 0 1 0 0, room - 3 4 -", "left 0 0 0 0 0, room 4 3 2 -"),
+    ("the-second-of-two-hosts-in-vain", TWO_HOSTS, [8, 8, 0, 0], "left 0 0 0 1 0, room 2 - 4 -", "left 0 0 0 0 0, room 2 4 3 -"),
+    ("a-tie-behind-a-host-in-vain", ORDERED, [4] * 4, "left 0 0 1 0 0, room - 3 4 0", "left 0 1 1 0 0, room 3 4 0 -"),
+    ("a-tie-behind-a-host-in-vain-the-lower-declines", ORDERED, [12, 4, 0, 0], "left 0 0 1 0 0, room - 3 4 0", "left 0 0 0 0 0, room 4 3 2 0"),
+    ("a-smaller-T-behind-a-host-in-vain", PERIODS, [2] * 4, "left 0 1 0 0, room - 3 - 2", "left 1 1 0 0, room 3 2 - -"),
+    ("nobody-takes-it-and-nobody-is-charged", BESIDE, [14, 14, 14, 14], "left 0 1 1 1, room - - - -", "left 1 1 1 1, room - - - -"),
+    ("a-slot-for-nobody-and-then-all-take", BESIDE, [14, 0, 0, 0], "left 0 1 0 0, room - 2 3 -", "left 0 0 0 0, room - 1 2 3"),
+    ("ladder-nobody-declines", LADDER, [0], "left 2 1 0 0 1 1 1, room 3", "left 2 1 0 0 1 1 1, room 3"),
+    ("ladder-one-level-back", LADDER, [8], "left 2 1 0 1 1 1 1, room -", "left 2 1 1 1 0 1 1, room 4"),
+    ("ladder-two-levels-back", LADDER, [24], "left 2 1 0 1 1 1 1, room -", "left 2 2 1 1 1 0 1, room 5"),
+    ("ladder-three-levels-back", LADDER, [56], "left 2 1 0 1 1 1 1, room -", "left 3 2 1 1 1 1 0, room 6"),
+    ("ladder-nobody-takes-it", LADDER, [120], "left 2 1 0 1 1 1 1, room -", "left 3 2 1 1 1 1 1, room -"),
+    ("ladder-every-level-in-turn", LADDER, [8, 24, 0, 0], "left 0 0 0 1 1 0 0, room - - 5 6", "left 0 0 0 0 0 0 0, room 4 5 3 6"),
+    ("in-vain-on-one-core-and-on-two", CORES, [2, 16, 18, 0], "left 0 1 0 0 1 0, room -,4 2,5 -,- 2,5", "left 0 0 0 0 0 0, room 2,4 1,5 2,5 1,4"),
+    ("a-slot-does-not-go-to-another-core", CORES, [6, 0], "left 0 1 0 0 0 0, room -,4 2,5", "left 0 0 1 0 0 0, room -,4 1,5"))
+
+
+def switched(case):
+    """Hosts that are passed in vain."""
+    for label, plan, declined, off, on in SWITCHED:
+        case(label, plan, len(declined), decline=declined, meant=(off, on))
+    case("in-vain-on-a-core-that-is-not-supplied", CORES, 2, supply=[2, 1], decline=2,
+         meant=("left 0 1 1 0 0 1, room x,4 -,x", "left 1 1 0 0 0 1, room x,4 2,x"))
+    nested(case)
+    at_the_ends(case)
+
+
+BESIDE_A_CHAIN = "aligned beside on 0 wants 1/2 gets 1/2\n"
+
+
+def nested(case):
+    """Hosts in each other, passed in vain together: at this depth a leaf that declines, or a host without children."""
+    for depth in (2, 3, 8):
+        leaf, zeros, ones = 1 << depth - 1, " 0" * (depth - 1), " 1" * (depth - 1)
+        case(f"nested-in-vain-to-a-leaf-at-depth-{depth}", chain(depth) + BESIDE_A_CHAIN, 4, decline=[leaf, 0, leaf, leaf],
+             meant=(f"left{zeros} 1 0, room - {depth} - {depth}", f"left{ones} 1 0, room {depth} {depth - 1} {depth} -"))
+        case(f"nested-in-vain-to-a-host-at-depth-{depth}", chain(depth, "host") + BESIDE_A_CHAIN, 2,
+             meant=(f"left{zeros} 0 0, room - {depth}", f"left{ones} 1 0, room {depth} -"))
+
+
+def at_the_ends(case):
+    """Where states and runs have their limits: the last slots of all, a state from elsewhere, counts that are ignored, room beyond."""
+    case("in-vain-in-the-last-slots-of-all", BESIDE, 2, decline=[2, 4], edits=("clock 0 1099511627774",),
+         meant=("left 0 1 1 0, room - 3", "left 0 0 0 1, room 2 1"))
+    case("in-vain-in-a-state-where-its-leaf-has-nothing-left", BESIDE, 1, edits=("clock 0 1", "left 1 0"),
+         meant=("left 0 0 1 1, room -", "left 1 0 0 1, room 2"))
+    case("in-vain-and-entries-past-the-last-node", BESIDE, 4, decline=[2, 4, 0, 0], edits=("left 4 7", "left 63 65535"),
+         meant=("65535, room - 3 2 -", "65535, room 2 1 3 -"))
+    case("in-vain-and-room-beyond-stays", BESIDE, 2, decline=[2, 4], room=5, meant=("left 0 1 1 0, room - 3 . . .", "left 0 0 0 1, room 2 1 . . ."))
 
 
 def fresh_starts():
@@ -484,6 +692,42 @@ def demands():
     yield "demand-whole-core-log-and-media-decline-always", WHOLE_CORE, [1] * 24, [6] * 24
     yield "demand-whole-core-door-and-log-decline-now-and-then", WHOLE_CORE, [1] * 24, [1, 2, 0, 3, 0, 0, 2, 1] * 3
     yield "demand-whole-host-door-declines-every-fifth-slot", WHOLE_HOST, [1] * 24, [2 if n % 5 == 0 else 0 for n in range(24)]
+    yield "demand-example-log-declines-always", EXAMPLE, [1] * 20, [2] * 20
+    yield "demand-example-log-declines-now-and-then", EXAMPLE, [1] * 20, [2, 0, 2, 2, 0] * 4
+    yield "demand-two-cores-front-declines-and-they-are-supplied-as-little-as-they-may", TWO, [3, 1, 1, 3] * 8, [2] * 32
+    yield "demand-tree-c-and-i-decline-now-and-then", TREE, [7] * 32, [4, 0, 0x104, 0x100] * 8
+    yield "demand-ladder-d-and-e-decline-now-and-then", LADDER, [1] * 24, [8, 24, 0, 16, 8, 0] * 4
+    yield "demand-two-hosts-in-vain", TWO_HOSTS, [1] * 24, [12] * 24
+    yield "demand-nested-in-vain-at-depth-8", chain(8) + BESIDE_A_CHAIN, [1] * 16, [0x80] * 16
+
+
+MIXED = (  # a plan, settings, supply bytes and decline words of slots, three times one after the other; who has each of them, worked out by hand
+    ("each-slot-another", EXAMPLE, "0101", [1] * 4, [0] * 4, " 1 2 - 2"), ("on-in-the-middle", EXAMPLE, "0110", [1] * 4, [0] * 4, " 1 2 2 -"),
+    ("off-in-the-middle", EXAMPLE, "1001", [1] * 4, [0] * 4, " 1 - 2 2"), ("on-and-then-off", EXAMPLE, "1100", [1] * 4, [0] * 4, " 1 2 - 2"),
+    ("on-once-and-its-leaf-declines", BESIDE, "1000", [1] * 4, [2, 4, 0, 0], " 2 1 3 -"),
+    ("off-once-and-its-leaf-declines", BESIDE, "0111", [1] * 4, [2, 4, 0, 0], " - 3 2 -"),
+    ("two-cores", CORES, "0011", [3] * 4, [2, 16, 18, 0], " -,4 2,5 2,5 1,4"))
+DRAWN = (  # a plan, slots, supply bytes that come round, and who declines now and then
+    ("drawn-example", EXAMPLE, 20, [1], 2), ("drawn-tree", TREE, 32, [7], 0b110), ("drawn-two-cores", TWO, 32, [3, 1, 1, 3], 2 + 8),
+    ("drawn-ladder", LADDER, 24, [1], 8 + 16), ("drawn-two-hosts", TWO_HOSTS, 24, [1], 4), ("drawn-whole-host", WHOLE_HOST, 24, [1], 4),
+    ("drawn-nested", chain(8) + BESIDE_A_CHAIN, 16, [1], 0x80))
+
+
+def mixed():
+    """Runs and steps one after the other, each with a setting of its own: what each leaf received, and the same slots by steps alone."""
+    number = numbers()
+    for label, plan, settings, supplied, declined, meant in MIXED:
+        yield from mixed_case("mixed-" + label, plan, settings * 3, supplied * 3, declined * 3, f"room{meant * 3},")
+    for label, plan, slots, supplied, who in DRAWN:
+        settings, declined = "".join(str(number(1)) for _ in range(slots)), [who * number(1) for _ in range(slots)]
+        yield from mixed_case("mixed-" + label, plan, settings, supplied * (slots // len(supplied)), declined, "room")
+
+
+def mixed_case(label, plan, settings, supplied, declined, meant):
+    settings = [int(digit) for digit in settings]
+    calls = Case(label, plan, (), "mixed", settings, supplied, declined, len(supplied) * cores_of(plan))
+    assert meant in calls.result(), (calls.said(), meant)
+    return calls, Case(label + "-by-steps", plan, (), "steps", settings, supplied, declined)
 
 
 # Trial
@@ -497,8 +741,12 @@ def tried_plan(draw):
         nodes.append(Node(2, 127 + i if i else 0, (wanted, wanted), (served, served)))
     nodes += sharing(draw, 127 + len(nodes) if nodes else 0, draw((4, 6, 8, 9, 10, 12)))
     T = draw(range(1, 10))
-    value = Value(Plan(1, 1, [(T, T)], nodes, []))
-    assert value.broken() == 0, nodes
+    return tried([(T, T)], nodes)
+
+
+def tried(supplies, nodes):
+    value = Value(Plan(1, 1, supplies, nodes, []))
+    assert value.broken() == 0, (supplies, nodes)
     return value
 
 
@@ -506,36 +754,136 @@ def sharing(draw, parent, M):
     """Leaves with periods that divide M and each other, and all of M slots among them. Each wants the most that its served type stands in for."""
     leaves, left = [], M
     while left > 0:
-        periods = [t for t in range(1, M + 1) if M % t == 0 and all(t % leaf.served[1] == 0 or leaf.served[1] % t == 0 for leaf in leaves)]
-        T = draw(periods) if len(leaves) < 4 else M
+        T = draw(periods(leaves, 1, M)) if len(leaves) < 4 else M
         C = draw(range(left * T // M + 1)) if len(leaves) < 4 else left
-        kind, wanted = draw((0, 1)), draw(range(1, 2 * T + 3))
-        windows = pairs.each_window(("aligned", C, T), (("aligned", "sliding")[kind], 0, wanted), pairs.argued)
-        leaves.append(Node(kind, parent, (min(ones for _, ones in windows), wanted), (C, T)))
+        leaves.append(wants_most(draw((0, 1)), parent, (C, T), draw(range(1, 2 * T + 3))))
         left -= C * (M // T)
     return leaves
 
 
+def periods(siblings, unit, M):
+    """The multiples of a unit that divide M and keep rule 13 with these siblings."""
+    return [t for t in range(unit, M + 1, unit) if M % t == 0 and all(t % node.served[1] == 0 or node.served[1] % t == 0 for node in siblings)]
+
+
+def wants_most(kind, parent, served, T):
+    """A node that wants, in windows of T, the most that its served type stands in for."""
+    windows = pairs.each_window(("aligned", *served), ("sliding" if kind == 1 else "aligned", 0, T), pairs.argued)
+    return Node(kind, parent, (min(ones for _, ones in windows), T), served)
+
+
+def tried_tree(draw):
+    """A plan value with a core or two and, under each, hosts in each other and leaves."""
+    supplies, nodes = [], []
+    for k in range(draw((1, 1, 2))):
+        T = draw(range(1, 7))
+        supplies.append((draw(range((T + 1) // 2, T + 1)), T))
+        grow(draw, nodes, k, supplies[k], 1)
+    return tried(supplies, nodes)
+
+
+def grow(draw, nodes, parent, own, level):
+    """Adds the children of a parent of this own type, up to four: periods that keep rules 12 and 13, counts that keep 14; and theirs, where they are
+    hosts."""
+    C, T = own
+    unit = 1 if C == T else T
+    M = unit * draw([times for times in (1, 2, 3, 4, 6, 8) if times == 1 or unit * times <= 24])
+    left, first, children = (M if C == T else C * (M // T)), len(nodes), []
+    for _ in range(draw(range(1, 5))):
+        t = draw(periods(children, unit, M))
+        most = left * t // M
+        c = draw(range(min(1, most), most + 1))
+        kind = draw((0, 1, 2, 2) if level < 5 and len(nodes) < 16 else (0, 1))
+        children.append(wants_most(kind, parent, (c, t), t if kind == 2 else draw(range(1, 2 * t + 3))))
+        left -= c * (M // t)
+    nodes += children
+    for i, child in enumerate(children):
+        if child.kind == 2:
+            grow(draw, nodes, 128 + first + i, child.wanted, level + 1)
+
+
+def drawn_supply(draw, value, slots):
+    """Supply bytes in which each core keeps its type, with as little as it may in about half of its periods."""
+    supplied = [0] * slots
+    for k, (C, T) in enumerate(value.supplies[:value.cores]):
+        for b in range(0, slots, T):
+            given = list(range(b, b + T))
+            for _ in range(draw((0, T - C))):
+                given.remove(draw(given))
+            for n in given:
+                if n < slots:
+                    supplied[n] |= 1 << k
+    return supplied
+
+
+def above(value, i):
+    """A node and the hosts above it, and its core."""
+    found = [i]
+    while value.nodes[found[-1]].parent >= 128:
+        found.append(value.nodes[found[-1]].parent - 128)
+    return found, value.nodes[found[-1]].parent
+
+
+def could_take(value, left, k, declined):
+    """The leaves under core k that could take a slot: those that do not decline, have slots left and stand under hosts that all have slots left."""
+    lines = ((i, above(value, i)) for i in leaves(value) if not declined >> i & 1)
+    return [i for i, (line, core) in lines if core == k and all(left[j] > 0 for j in line)]
+
+
+def try_out(value, settings, supplied, declined, seen):
+    """Asserts demand 3 of these slots, and of each in which the switch is on what `nothing_wasted` asks."""
+    state, answers = fresh(value)[1], []
+    for setting, *inputs in zip(settings, supplied, declined):
+        before, off = copied(state), slot(OFF, value, copied(state), *inputs)
+        given = slot(setting, value, state, *inputs)
+        answers += given
+        if setting == ON:
+            refill(value, before)
+            nothing_wasted(value, before.left, *inputs, given, state.left)
+            seen["idle"] += given.count(IDLE)
+            seen["gained"] += sum(one == IDLE != other for one, other in zip(off, given))
+    seen["windows"] += demand(value, supplied, declined, answers)
+
+
+def copied(state):
+    return State(state.clock, list(state.left))
+
+
+def nothing_wasted(value, left, supplied, declined, given, after):
+    """Asserts that a supplied core is idle exactly when no leaf under it could take the slot, and that only who has a slot and the hosts above are
+    charged."""
+    for k, grant in enumerate(given):
+        ready = could_take(value, left, k, declined) or [IDLE]
+        assert grant in (ready if supplied >> k & 1 else [NOT_SUPPLIED]), (value.nodes[:value.size], left, declined, given)
+    charged = [j for grant in given if grant < value.size for j in above(value, grant)[0]]
+    assert after == [count - charged.count(j) for j, count in enumerate(left)], (value.nodes[:value.size], left, declined, given)
+
+
 def check():
-    """How many windows demand 3 spoke of, in runs with declines that follow no pattern."""
-    draw, spoken = random.Random(1).choice, 0
-    for _ in range(3000):
-        value, slots = tried_plan(draw), 36
-        declined = [draw(range(2 ** value.size)) & draw(range(2 ** value.size)) & draw(range(2 ** value.size)) for _ in range(slots)]
-        _, answers = run(value, fresh(value)[1], [1] * slots, declined, slots)
-        spoken += demand(value, [1] * slots, declined, answers)
-    return spoken
+    """Counts of what was seen: windows that demand 3 spoke of and, where the switch was on, idle slots and slots that would have been idle without."""
+    draw, seen, slots = random.Random(1).choice, collections.Counter(), 36
+    for turn in range(2000):
+        value = (tried_plan, tried_tree)[turn % 2](draw)
+        words = range(2 ** value.size)
+        some = draw(words)
+        supplied = drawn_supply(draw, value, slots)
+        declined = [draw((some, some & draw(words))) for _ in range(slots)]
+        for settings in [OFF] * slots, [ON] * slots, [draw(SETTINGS) for _ in range(slots)]:
+            try_out(value, settings, supplied, declined, seen)
+    return seen
 
 
 def main(words):
     if words == ["cases"]:
         text = "\n".join(case.line() for case in cases())
-        assert len(text) < 131072, "the program reads no more"
+        assert len(text) < 262144, "the program reads no more"
         print(text)
     elif words == ["expect"]:
         print("\n".join(case.said() for case in cases()))
     elif words == ["check"]:
-        print(f"{check()} windows of plans with whole parents have what was wanted")
+        seen = check()
+        print(f"{seen['windows']} windows have what was wanted; with the switch on {seen['gained']} slots went on to a sibling, "
+              f"and each of {seen['idle']} idle ones was for nobody")
     else:
         sys.exit(__doc__)
 

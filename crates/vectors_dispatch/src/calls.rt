@@ -1,7 +1,7 @@
 // Makes the calls of `dispatch` and prints their results.
-ghost use Prim.Native.Nat.{_≤_};
-ghost use lib.ListN.{length};
 use crate::edits::Case;
+use crate::inputs;
+use crate::inputs::Words;
 use crate::show;
 use crate::windows;
 
@@ -10,17 +10,17 @@ pub fn fresh(case: Case) {
     show::ran(ran, case.plan.size);
 }
 
-// A run on the bytes and words that two words of the input spell, and its room afterwards; where demand 3 is asked for, the windows of each leaf too.
-pub fn run(case: Case, supplies: &[u8], declines: &[u8], room: u64, demand: bool) {
+// A run, and its room afterwards; where demand 3 is asked for, the windows of each leaf too.
+pub fn run(line: &[u8], case: Case, at: Words, demand: bool) {
     let mut supplied = [0u8; 64];
     let mut declined = [0u64; 64];
     let mut out = [200u8; 512];
-    let n = room as usize;
+    let n = lines::decimal(line, at.room, b' ') as usize;
     if n <= 512 {
         run_on(
+            line,
             case,
-            supplies,
-            declines,
+            at,
             &mut supplied,
             &mut declined,
             &mut out[0..n],
@@ -31,17 +31,25 @@ pub fn run(case: Case, supplies: &[u8], declines: &[u8], room: u64, demand: bool
 
 // The same, with room for the bytes and words.
 fn run_on(
+    line: &[u8],
     case: Case,
-    supplies: &[u8],
-    declines: &[u8],
+    at: Words,
     supplied: &mut [u8],
     declined: &mut [u64],
     out: &mut [u8],
     demand: bool,
 ) {
-    let k = lines::bytes(supplies, supplied);
-    let d = hex_words(declines, declined);
-    let ran = dispatch::run(case.plan, case.state, &supplied[0..k], &declined[0..d], out);
+    let setting = inputs::setting(lines::part(line, at.setting, b' '));
+    let k = lines::bytes(lines::part(line, at.supplies, b' '), supplied);
+    let d = inputs::hex_words(lines::part(line, at.declines, b' '), declined);
+    let ran = dispatch::run(
+        setting,
+        case.plan,
+        case.state,
+        &supplied[0..k],
+        &declined[0..d],
+        out,
+    );
     show::ran(ran, case.plan.size);
     show::print(b", room");
     show::answers(out, case.plan.cores);
@@ -50,49 +58,28 @@ fn run_on(
     }
 }
 
-// A step for each slot, each from the state that the one before handed back.
-pub fn steps(case: Case, supplies: &[u8], declines: &[u8]) {
+// A step for each slot, each with a setting of its own and from the state that the one before handed back.
+pub fn steps(line: &[u8], case: Case, at: Words) {
     let mut supplied = [0u8; 64];
     let mut declined = [0u64; 64];
-    steps_on(case, supplies, declines, &mut supplied, &mut declined);
+    steps_on(line, case, at, &mut supplied, &mut declined);
 }
 
-fn steps_on(
-    case: Case,
-    supplies: &[u8],
-    declines: &[u8],
-    supplied: &mut [u8],
-    declined: &mut [u64],
-) {
-    let k = lines::bytes(supplies, supplied);
-    let d = hex_words(declines, declined);
-    each_step(case, &supplied[0..k], &declined[0..d]);
+fn steps_on(line: &[u8], case: Case, at: Words, supplied: &mut [u8], declined: &mut [u64]) {
+    let settings = lines::part(line, at.setting, b' ');
+    let k = lines::bytes(lines::part(line, at.supplies, b' '), supplied);
+    let d = inputs::hex_words(lines::part(line, at.declines, b' '), declined);
+    each_step(case, settings, &supplied[0..k], &declined[0..d]);
 }
 
-fn each_step(case: Case, supplied: &[u8], declined: &[u64]) {
+fn each_step(case: Case, settings: &[u8], supplied: &[u8], declined: &[u64]) {
     let n = lines::least(supplied.len(), declined.len());
     let mut state = case.state;
     for i in 0..n {
-        let stepped = dispatch::step(case.plan, state, supplied[i], declined[i]);
+        let setting = inputs::setting_of(settings, i);
+        let stepped = dispatch::step(setting, case.plan, state, supplied[i], declined[i]);
         show::step(stepped);
         state = stepped.state;
     }
     show::state(state, case.plan.size);
-}
-
-// Puts the numbers that the word's hex digits spell, a comma between two, at the start of `out`, and says how many they are: none for `-`.
-fn hex_words(word: &[u8], out: &mut [u64]) -> usize
-    ensures { λ r. ⌜ r ≤ length (now (out .exit)) ⌝ }
-{
-    let mut at: usize = 0;
-    let mut n: usize = 0;
-    while n < out.len() {
-        if lines::byte(word, at) < b'0' {
-            return n;
-        }
-        out[n] = lines::hex(word, at, b',');
-        at = lines::past(word, at, b',');
-        n += 1;
-    }
-    n
 }

@@ -1,8 +1,10 @@
 // Gives out slots by `dispatch` as standard input asks, and prints what comes of it, a line a case: a label, a plan in hex, any number of edits
-// `with left 1 2`, and what is done, as `run ff01 0,4 2`: supply bytes, decline words and room. tools/slots.py says it in full.
+// `with left 1 2`, and what is done, as `run on ff01 0,4 2`: setting, supply bytes, decline words and room. tools/slots.py says it in full.
 // What it must print is worked out from documents 01 and 02, by `python3 tools/slots.py expect`; `python3 tools/slots.py cases` makes its input.
 mod calls;
 mod edits;
+mod inputs;
+mod mixed;
 mod show;
 mod windows;
 
@@ -15,8 +17,8 @@ fn main() {
 }
 
 // Room for the whole input.
-fn room() -> [u8; 131072] {
-    [0; 131072]
+fn room() -> [u8; 262144] {
+    [0; 262144]
 }
 
 fn every_case(input: &[u8]) {
@@ -48,16 +50,12 @@ fn read(word: &[u8], file: &mut [u8]) -> plans::Plan {
 
 // Makes the call that is asked for.
 fn call(line: &[u8], case: Case) {
-    let at = case.next;
-    let supplies = lines::past(line, at, b' ');
-    let declines = lines::past(line, supplies, b' ');
-    let supplied = lines::part(line, supplies, b' ');
-    let declined = lines::part(line, declines, b' ');
-    let room = lines::decimal(line, lines::past(line, declines, b' '), b' ');
-    match lines::byte(line, at) {
+    let words = inputs::words(line, case.next);
+    match lines::byte(line, case.next) {
         b'f' => calls::fresh(case),
-        b's' => calls::steps(case, supplied, declined),
-        b'd' => calls::run(case, supplied, declined, room, true),
-        _ => calls::run(case, supplied, declined, room, false),
+        b's' => calls::steps(line, case, words),
+        b'm' => mixed::mixed(line, case, words),
+        b'd' => calls::run(line, case, words, true),
+        _ => calls::run(line, case, words, false),
     }
 }

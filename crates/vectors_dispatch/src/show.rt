@@ -2,6 +2,7 @@
 ghost use Prim.Native.Nat.{_≤_};
 use dispatch::Outcome;
 use dispatch::Ran;
+use dispatch::Setting;
 use dispatch::State;
 use dispatch::Stepped;
 
@@ -29,6 +30,20 @@ pub fn step(stepped: Stepped) {
     print(b"step ");
     outcome(end);
     answers(&grants, 8);
+    print(b", ");
+}
+
+pub fn setting(s: Setting) {
+    match s {
+        Setting::Off => print(b"off"),
+        Setting::On => print(b"on"),
+    }
+}
+
+// The outcome of a call that was named before.
+pub fn outcome_of(o: Outcome) {
+    print(b" ");
+    outcome(o);
     print(b", ");
 }
 

@@ -12,7 +12,7 @@ pub struct Words {
 }
 
 // The words of a line in which what is done begins at `at`.
-pub fn words(line: &[u8], at: usize) -> Words {
+pub fn words_of(line: &[u8], at: usize) -> Words {
     let setting = lines::past(line, at, b' ');
     let supplies = lines::past(line, setting, b' ');
     let declines = lines::past(line, supplies, b' ');

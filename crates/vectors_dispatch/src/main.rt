@@ -50,7 +50,7 @@ fn read(word: &[u8], file: &mut [u8]) -> plans::Plan {
 
 // Makes the call that is asked for.
 fn call(line: &[u8], case: Case) {
-    let words = inputs::words(line, case.next);
+    let words = inputs::words_of(line, case.next);
     match lines::byte(line, case.next) {
         b'f' => calls::fresh(case),
         b's' => calls::steps(line, case, words),

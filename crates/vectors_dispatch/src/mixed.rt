@@ -93,7 +93,7 @@ fn call(
     declined: &[u64],
     out: &mut [u8],
 ) -> State {
-    if supplied.len() == 1 && declined.len() == 1 {
+    if supplied.len() == 1 && 0 < declined.len() {
         step(setting, plan, state, supplied[0], declined[0], out)
     } else {
         run(setting, plan, state, supplied, declined, out)
@@ -109,10 +109,11 @@ fn run(
     out: &mut [u8],
 ) -> State {
     let ran = dispatch::run(setting, plan, state, supplied, declined, out);
+    let end = ran.outcome;
     show::print(b"run ");
     show::setting(setting);
     show::number(b" ", supplied.len() as u64);
-    show::outcome_of(ran.outcome);
+    show::outcome_of(end);
     ran.state
 }
 
@@ -125,10 +126,11 @@ fn step(
     out: &mut [u8],
 ) -> State {
     let stepped = dispatch::step(setting, plan, state, supplied, declined);
+    let end = stepped.outcome;
     let grants = stepped.grants;
     show::print(b"step ");
     show::setting(setting);
-    show::outcome_of(stepped.outcome);
+    show::outcome_of(end);
     put(&grants, plan.cores, out);
     stepped.state
 }

@@ -6,16 +6,19 @@ use Rattle.vectors_dispatch.proofs.calls.each_step.Statement.{statement
 use Rattle.vectors_dispatch.proofs.calls.each_step.Tie as tie
 
 abbrev Inv-loop : tie.InvT-loop
-Inv-loop case supplied declined n state₀ i₀ state i = (n ≤ length supplied) × (n ≤ length declined)
+Inv-loop case settings supplied declined n state₀ i₀ state i = (n ≤ length supplied) × (n ≤ length declined)
 
 abbrev μ-loop : tie.MeasureT-loop
-μ-loop case supplied declined n state₀ i₀ state i = n - i
+μ-loop case settings supplied declined n state₀ i₀ state i = n - i
 
 least-requires : tie.Need-least-requires Inv-loop μ-loop
 least-requires c κs = search needs
 
 loop-holds : tie.Need-loop-holds Inv-loop μ-loop
 loop-holds c = search needs
+
+setting-of-requires : tie.Need-setting-of-requires Inv-loop μ-loop
+setting-of-requires c κs = search needs
 
 shared-slice-read-step : tie.Need-shared-slice-read-step Inv-loop μ-loop
 shared-slice-read-step c = search needs
@@ -55,6 +58,7 @@ each-step-spec =
     μ-loop
     least-requires
     loop-holds
+    setting-of-requires
     shared-slice-read-step
     mul-step
     shared-slice-read-step-2

@@ -1,10 +1,10 @@
--- `calls::hex_words` meets its contract: n goes up to the room, which keeps its length. Assumes nothing.
+-- `inputs::hex_words` meets its contract: n goes up to the room, which keeps its length. Assumes nothing.
 use mathlib.Core.Path.{_≡_}
 use Prim.Native.Nat.{_-_, _≤_}
 use lib.ListN.{length}
 use borrow.Author.Needs.{needs}
-use Rattle.vectors_dispatch.proofs.calls.hex_words.Statement.{statement}
-use Rattle.vectors_dispatch.proofs.calls.hex_words.Tie as tie
+use Rattle.vectors_dispatch.proofs.inputs.hex_words.Statement.{statement}
+use Rattle.vectors_dispatch.proofs.inputs.hex_words.Tie as tie
 
 abbrev Inv-loop : tie.InvT-loop
 Inv-loop word out₀ at₀ n₀ out at n = (length out ≡ length out₀) × (n ≤ length out₀)

@@ -78,6 +78,7 @@ EXAMPLES = {
     "quick_slots": plans.lay(QUICK_SLOTS),
     "whole_core": plans.lay(plans.WHOLE_CORE),
     "whole_host": plans.lay(plans.WHOLE_HOST),
+    "sibling_gains": plans.lay(slots.SIBLING_GAINS),
     "nearly_whole": plans.lay(plans.WHOLE_CORE.replace("supply 4/4", "supply 3/4")),
     "overfull": plans.lay(OVERFULL),
     "cut_off": plans.lay(plans.EXAMPLE)[:44],

@@ -551,6 +551,15 @@ def varied(case):
             case(f"varied-{name}-{turn}", plan, slots, supply=supplied, decline=[number(64) & number(64) for _ in range(slots)], steps=turn == 0)
 
 
+SIBLING_GAINS = """\
+tick 1000 3
+supply 1/1
+host body on 0 wants 2/4 gets 2/4
+host rack in body wants 1/4 gets 1/4
+aligned log in rack wants 1/9 gets 1/4
+aligned lamp in body wants 1/4 gets 1/4
+sliding door on 0 wants 4/10 gets 2/4
+"""
 BESIDE = """\
 supply 1/1
 host a on 0 wants 1/4 gets 1/4
@@ -611,6 +620,8 @@ aligned f on 1 wants 1/2 gets 1/2
 
 
 SWITCHED = (  # a plan and decline words; what is left and who has each slot, worked out by hand, with the switch off and on
+    ("sibling-gains", SIBLING_GAINS, [12, 4, 0, 0, 12, 4, 16, 16], "left 0 0 1 0 2, room - 3 4 4 - 3 - -", "left 0 0 0 0 1, room 4 3 2 4 4 3 2 -"),
+    ("sibling-gains-in-one-slot", SIBLING_GAINS, [12], "left 1 0 1 1 2, room -", "left 2 1 1 1 1, room 4"),
     ("in-vain-as-its-leaf-declines", BESIDE, [2, 4, 0, 0], "left 0 1 0 0, room - 3 2 -", "left 0 0 0 0, room 2 1 3 -"),
     ("in-vain-as-its-leaf-has-nothing-left", EXAMPLE, [0] * 4, "left 0 0 0, room 1 - 2 2", "left 1 0 0, room 1 2 2 -"),
     ("in-vain-as-a-host-between-has-nothing-left", BETWEEN, [0] * 4, "left 0 0 1 0, room 2 - 3 -", "left 1 0 1 0, room 2 3 - -"),
@@ -697,6 +708,7 @@ def demands():
     yield "demand-two-cores-front-declines-and-they-are-supplied-as-little-as-they-may", TWO, [3, 1, 1, 3] * 8, [2] * 32
     yield "demand-tree-c-and-i-decline-now-and-then", TREE, [7] * 32, [4, 0, 0x104, 0x100] * 8
     yield "demand-ladder-d-and-e-decline-now-and-then", LADDER, [1] * 24, [8, 24, 0, 16, 8, 0] * 4
+    yield "demand-sibling-gains-log-and-lamp-decline-now-and-then", SIBLING_GAINS, [1] * 20, [12, 4, 0, 0, 8] * 4
     yield "demand-two-hosts-in-vain", TWO_HOSTS, [1] * 24, [12] * 24
     yield "demand-nested-in-vain-at-depth-8", chain(8) + BESIDE_A_CHAIN, [1] * 16, [0x80] * 16
 

@@ -617,7 +617,7 @@ host d on 1 wants 1/2 gets 1/2
 aligned e in d wants 1/2 gets 1/2
 aligned f on 1 wants 1/2 gets 1/2
 """
-
+BESIDE_A_CHAIN = "aligned beside on 0 wants 1/2 gets 1/2\n"
 
 SWITCHED = (  # a plan and decline words; what is left and who has each slot, worked out by hand, with the switch off and on
     ("sibling-gains", SIBLING_GAINS, [12, 4, 0, 0, 12, 4, 16, 16], "left 0 0 1 0 2, room - 3 4 4 - 3 - -", "left 0 0 0 0 1, room 4 3 2 4 4 3 2 -"),
@@ -655,17 +655,14 @@ def switched(case):
     at_the_ends(case)
 
 
-BESIDE_A_CHAIN = "aligned beside on 0 wants 1/2 gets 1/2\n"
-
-
 def nested(case):
-    """Hosts in each other, passed in vain together: at this depth a leaf that declines, or a host without children."""
-    for depth in (2, 3, 8):
-        leaf, zeros, ones = 1 << depth - 1, " 0" * (depth - 1), " 1" * (depth - 1)
-        case(f"nested-in-vain-to-a-leaf-at-depth-{depth}", chain(depth) + BESIDE_A_CHAIN, 4, decline=[leaf, 0, leaf, leaf],
-             meant=(f"left{zeros} 1 0, room - {depth} - {depth}", f"left{ones} 1 0, room {depth} {depth - 1} {depth} -"))
-        case(f"nested-in-vain-to-a-host-at-depth-{depth}", chain(depth, "host") + BESIDE_A_CHAIN, 2,
-             meant=(f"left{zeros} 0 0, room - {depth}", f"left{ones} 1 0, room {depth} -"))
+    """Hosts in each other, passed in vain together: at depth d a leaf that declines, or a host without children; node d is a leaf beside them all."""
+    for d in (2, 3, 8):
+        leaf, zeros, ones = 1 << d - 1, " 0" * (d - 1), " 1" * (d - 1)
+        case(f"nested-in-vain-to-a-leaf-at-depth-{d}", chain(d) + BESIDE_A_CHAIN, 4, decline=[leaf, 0, leaf, leaf],
+             meant=(f"left{zeros} 1 0, room - {d} - {d}", f"left{ones} 1 0, room {d} {d - 1} {d} -"))
+        case(f"nested-in-vain-to-a-host-at-depth-{d}", chain(d, "host") + BESIDE_A_CHAIN, 2,
+             meant=(f"left{zeros} 0 0, room - {d}", f"left{ones} 1 0, room {d} -"))
 
 
 def at_the_ends(case):
@@ -732,10 +729,11 @@ def mixed():
         yield from mixed_case("mixed-" + label, plan, settings * 3, supplied * 3, declined * 3, f"room{meant * 3},")
     for label, plan, slots, supplied, who in DRAWN:
         settings, declined = "".join(str(number(1)) for _ in range(slots)), [who * number(1) for _ in range(slots)]
-        yield from mixed_case("mixed-" + label, plan, settings, supplied * (slots // len(supplied)), declined, "room")
+        yield from mixed_case("mixed-" + label, plan, settings, supplied * (slots // len(supplied)), declined)
 
 
-def mixed_case(label, plan, settings, supplied, declined, meant):
+def mixed_case(label, plan, settings, supplied, declined, meant=""):
+    """The calls, with what was meant to stand in the room where it was worked out, and the steps."""
     settings = [int(digit) for digit in settings]
     calls = Case(label, plan, (), "mixed", settings, supplied, declined, len(supplied) * cores_of(plan))
     assert meant in calls.result(), (calls.said(), meant)

@@ -70,14 +70,8 @@ fn descend(plan: Plan, declines: u64, takers: u64, levels: u8, x: Parent, left: 
         Choice::Child(i) => {
             let charged = crate::counts::charge_one(left, i);
             if plans::is_host(plan, i) {
-                descend(
-                    plan,
-                    declines,
-                    takers,
-                    levels - 1,
-                    Parent::Node(i as u8),
-                    charged,
-                )
+                let below = Parent::Node(i as u8);
+                descend(plan, declines, takers, levels - 1, below, charged)
             } else {
                 Walked {
                     grant: i as u8,

@@ -51,17 +51,17 @@ module _ (t : ℕ) where
   is-host-requires : lts.Need-is-host-requires calls at descend.Post
   is-host-requires c κs = search needs
 
+  cast-descend : lts.Need-cast-descend calls at descend.Post
+  cast-descend c = search taken-byte
+
   sub-descend : lts.Need-sub-descend calls at descend.Post
   sub-descend c = search needs
-
-  cast-t15 : lts.Need-cast-t15 calls at descend.Post
-  cast-t15 c = search taken-byte
 
   descend-requires : lts.Need-descend-requires calls at descend.Post
   descend-requires c κs = search needs
 
-  cast-t17 : lts.Need-cast-t17 calls at descend.Post
-  cast-t17 c = search taken-byte
+  cast-t16 : lts.Need-cast-t16 calls at descend.Post
+  cast-t16 c = search taken-byte
 
   returns-2 : lts.Need-returns-2 calls at descend.Post
   returns-2 c = search walk-idle
@@ -77,5 +77,5 @@ pub +descend-spec : {M : Type 1} → statement M
     close μ
     (λ t.
     lts.spec (calls t) (at t) descend.Post (returns t) (choice-requires t) (enum-told t) (enum-known-i t)
-    (charge-one-requires t) (is-host-requires t) (sub-descend t) (cast-t15 t) (descend-requires t) (cast-t17 t)
+    (charge-one-requires t) (is-host-requires t) (cast-descend t) (sub-descend t) (descend-requires t) (cast-t16 t)
     (returns-2 t) (returns-3 t) (returns-4 t))

@@ -44,13 +44,13 @@ extern "C" {
 #endif
 
 /* The numbers of refusals. The place of a refused read is a byte for 1 to 10, counted from 0 (of a field of several bytes the first), and a node for 11 to 14.
- * The place of a refused decision is 0 for the giver and 1 for the wanted type. 15, 16 and 17 have no place. */
+ * The place of a refused decision is 0 for the giver and 1 for the wanted type. 15, 16 and 17 have no place, and neither has 5 of a setting. */
 #define METTULOS_DONE 0 /* no refusal */
 #define METTULOS_CUT_OFF 1 /* the bytes end before a field does; each byte of a name is a field */
 #define METTULOS_BAD_COUNT 2 /* a count is out of its range: 1 tick, 1 to 8 supplies, 1 to 64 nodes, as many names as nodes */
 #define METTULOS_BAD_TICK 3 /* P or Q is not 1 to 1,000,000 */
 #define METTULOS_BAD_TYPE 4 /* T is not 1 to 4,096, or C is over T; the place in a file is that of C */
-#define METTULOS_BAD_KIND 5 /* a kind that is none of those below */
+#define METTULOS_BAD_KIND 5 /* a kind or a setting that is none of those below */
 #define METTULOS_BAD_PARENT 6 /* a parent is neither a supply of the plan nor an earlier host */
 #define METTULOS_TOO_DEEP 7 /* a node would be at depth 9; the place is its parent byte */
 #define METTULOS_BAD_NAME 8 /* a name's length is not 1 to 32, or one of its bytes is not 33 to 126 */
@@ -75,6 +75,17 @@ extern "C" {
 #define METTULOS_ALIGNED_LEAF 0
 #define METTULOS_SLIDING_LEAF 1
 #define METTULOS_HOST 2
+
+/* Settings, for a step and a run. Both begin at the supply and look at a parent's children in the order of choice: those with slots left, the smaller served T
+ * first, then the lower number, leaves that decline passed over. Who is charged has one slot less left.
+ * Off: the first is taken and charged, and where it is a host the same is done among its children. Where there is nobody to take, the slot is idle, and the
+ * hosts above stay charged.
+ * On: a host under which nobody takes the slot is passed over too, at every level, and the choice goes to its next sibling. Charged are the leaf that takes
+ * the slot and the hosts above it, and nobody else. The slot is idle exactly where no leaf under the supply can take it: each of them declines, has nothing
+ * left, or stands under a host that has nothing left.
+ * The setting is no part of a plan or a state: each call may have another one, and what a leaf is guaranteed (docs/MANUAL.md) it gets with any of them. */
+#define METTULOS_OFF 0
+#define METTULOS_ON 1
 
 /* What is granted to a supply in a slot where it is not a leaf, which is below 64. */
 #define METTULOS_IDLE 254 /* supplied, and nobody took it */
@@ -161,18 +172,18 @@ uint64_t mettulos_name(const uint8_t *bytes, size_t len, size_t i, uint64_t *ans
  * has a number beyond its field. */
 uint64_t mettulos_fresh(const uint32_t *plan, size_t plan_len, uint64_t *state, size_t state_len);
 
-/* One slot: the state goes on by it, and grants has 8 answers: the leaf, 254 idle, 255 not supplied or no such supply. Bit i of supplied set (1 << i) means
- * that supply i has this slot to give; bit i of declines set means that node i, a leaf, does not want it. Bits that name no supply or no leaf are ignored.
- * Refused by 16 and 15. */
-uint64_t mettulos_step(const uint32_t *plan, size_t plan_len, uint64_t *state, size_t state_len, uint8_t supplied, uint64_t declines,
+/* One slot: the state goes on by it, and grants has 8 answers: the leaf, 254 idle, 255 not supplied or no such supply. Setting: 0 off, 1 on. Bit i of
+ * supplied set (1 << i) means that supply i has this slot to give; bit i of declines set means that node i, a leaf, does not want it. Bits that name no supply
+ * or no leaf are ignored. Refused by 5 (another setting, with no place, before the plan value and the state are looked at), 16 and 15, in this order. */
+uint64_t mettulos_step(uint8_t setting, const uint32_t *plan, size_t plan_len, uint64_t *state, size_t state_len, uint8_t supplied, uint64_t declines,
                        uint8_t *grants, size_t grants_len);
 
-/* As many slots as there are supply bytes: the state goes on by them, and the answers stand at the front of out, slot by slot, one for each supply of the
- * plan: that of supply s in the run's slot k is out[k * plan[METTULOS_PLAN_SUPPLIES] + s]. Supply bytes and decline words are those of a step, one for each
- * slot. What out has beyond the answers stays. Refused by 16, 17 (unequal inputs, too little room) and 15 (the clock would pass METTULOS_LAST_SLOT), in this
- * order. */
-uint64_t mettulos_run(const uint32_t *plan, size_t plan_len, uint64_t *state, size_t state_len, const uint8_t *supplies, size_t supplies_len,
-                      const uint64_t *declines, size_t declines_len, uint8_t *out, size_t out_len);
+/* As many slots as there are supply bytes, all of one setting: the state goes on by them, and the answers stand at the front of out, slot by slot, one for
+ * each supply of the plan: that of supply s in the run's slot k is out[k * plan[METTULOS_PLAN_SUPPLIES] + s]. Supply bytes and decline words are those of a
+ * step, one for each slot. What out has beyond the answers stays. Refused by 5 (as a step), 16, 17 (unequal inputs, too little room) and 15 (the clock would
+ * pass METTULOS_LAST_SLOT), in this order. */
+uint64_t mettulos_run(uint8_t setting, const uint32_t *plan, size_t plan_len, uint64_t *state, size_t state_len, const uint8_t *supplies,
+                      size_t supplies_len, const uint64_t *declines, size_t declines_len, uint8_t *out, size_t out_len);
 
 /* Slot times at P/Q microseconds a slot; answer has 1 number: the start of slot n in microseconds, the minute in which it begins, the slot of time t. Starts
  * are rounded down, from the exact fraction: n * P / Q; the slot of a time is the last that begins at or before it. Refused by 16 (P or Q is not 1 to
@@ -211,7 +222,7 @@ METTULOS_INLINE const char *mettulos_words(uint32_t number)
     case METTULOS_BAD_COUNT: return "a count is out of its range";
     case METTULOS_BAD_TICK: return "P or Q is out of its range";
     case METTULOS_BAD_TYPE: return "a type is malformed";
-    case METTULOS_BAD_KIND: return "a kind is unknown";
+    case METTULOS_BAD_KIND: return "a kind or a setting is unknown";
     case METTULOS_BAD_PARENT: return "a parent names nothing allowed";
     case METTULOS_TOO_DEEP: return "a node is too deep";
     case METTULOS_BAD_NAME: return "a name's length or byte is bad";

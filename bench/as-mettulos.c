@@ -19,16 +19,16 @@ uint64_t mettulos_fresh(const uint32_t *plan, size_t plan_len, uint64_t *state, 
     return fast_fresh(plan, plan_len, state, state_len);
 }
 
-uint64_t mettulos_step(const uint32_t *plan, size_t plan_len, uint64_t *state, size_t state_len, uint8_t supplied, uint64_t declines, uint8_t *grants,
-                       size_t grants_len)
+uint64_t mettulos_step(uint8_t setting, const uint32_t *plan, size_t plan_len, uint64_t *state, size_t state_len, uint8_t supplied, uint64_t declines,
+                       uint8_t *grants, size_t grants_len)
 {
-    return fast_step(plan, plan_len, state, state_len, supplied, declines, grants, grants_len);
+    return fast_step(setting, plan, plan_len, state, state_len, supplied, declines, grants, grants_len);
 }
 
-uint64_t mettulos_run(const uint32_t *plan, size_t plan_len, uint64_t *state, size_t state_len, const uint8_t *supplies, size_t supplies_len,
-                      const uint64_t *declines, size_t declines_len, uint8_t *out, size_t out_len)
+uint64_t mettulos_run(uint8_t setting, const uint32_t *plan, size_t plan_len, uint64_t *state, size_t state_len, const uint8_t *supplies,
+                      size_t supplies_len, const uint64_t *declines, size_t declines_len, uint8_t *out, size_t out_len)
 {
-    return fast_run(plan, plan_len, state, state_len, supplies, supplies_len, declines, declines_len, out, out_len);
+    return fast_run(setting, plan, plan_len, state, state_len, supplies, supplies_len, declines, declines_len, out, out_len);
 }
 
 uint64_t mettulos_name(const uint8_t *bytes, size_t len, size_t i, uint64_t *answer, size_t answer_len)

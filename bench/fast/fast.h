@@ -13,10 +13,10 @@ uint64_t fast_read(const uint8_t *bytes, size_t len, uint32_t *plan, size_t plan
 
 uint64_t fast_fresh(const uint32_t *plan, size_t plan_len, uint64_t *state, size_t state_len);
 
-uint64_t fast_step(const uint32_t *plan, size_t plan_len, uint64_t *state, size_t state_len, uint8_t supplied, uint64_t declines, uint8_t *grants,
-                   size_t grants_len);
+uint64_t fast_step(uint8_t setting, const uint32_t *plan, size_t plan_len, uint64_t *state, size_t state_len, uint8_t supplied, uint64_t declines,
+                   uint8_t *grants, size_t grants_len);
 
-uint64_t fast_run(const uint32_t *plan, size_t plan_len, uint64_t *state, size_t state_len, const uint8_t *supplies, size_t supplies_len,
+uint64_t fast_run(uint8_t setting, const uint32_t *plan, size_t plan_len, uint64_t *state, size_t state_len, const uint8_t *supplies, size_t supplies_len,
                   const uint64_t *declines, size_t declines_len, uint8_t *out, size_t out_len);
 
 #endif

@@ -1,8 +1,10 @@
-/* Document 01, "Giving out slots": on the lent state itself, once plan value, state and lengths have been found fit. */
+/* Document 01, "Giving out slots", and with the setting on request 12 of document 02: on the lent state itself, once setting, plan value, state and lengths
+ * have been found fit. */
 #include "inner.h"
 
 #include <string.h>
 
+enum { ON = 1 };
 enum { GRANTS = 8, IDLE = 254, NOT_SUPPLIED = 255 };
 
 #define LIMIT ((uint64_t)1 << 40)
@@ -30,6 +32,7 @@ struct course {
     uint64_t ready;   /* bit i for a node with slots left */
     uint64_t soonest; /* the first slot at which a class is refilled */
     uint64_t due[MOST_NODES];
+    uint64_t *below; /* with the setting on: of each host the leaves below it, as bits */
 };
 
 static void begin(struct course *course)
@@ -50,6 +53,16 @@ static void begin(struct course *course)
     }
 }
 
+static void find_leaves_below(struct course *course)
+{
+    const struct plan *plan = course->plan;
+    memset(course->below, 0, plan->node_count * sizeof *course->below);
+    for (uint32_t i = plan->node_count; i-- > 0;) {
+        uint64_t leaves = plan->nodes[i].kind == HOST ? course->below[i] : (uint64_t)1 << i;
+        if (plan->nodes[i].parent >= FIRST_NODE_BYTE) course->below[plan->nodes[i].parent - FIRST_NODE_BYTE] |= leaves;
+    }
+}
+
 static void refill(struct course *course, uint64_t clock)
 {
     course->soonest = UINT64_MAX;
@@ -67,8 +80,8 @@ static void refill(struct course *course, uint64_t clock)
     }
 }
 
-/* The answer of one supplied core, where `open` has the nodes that do not decline. */
-static uint8_t grant(struct course *course, uint64_t open, uint32_t supply)
+/* The answer of one supplied core with the setting off, where `open` has the nodes that do not decline. */
+static uint8_t grant_off(struct course *course, uint64_t open, uint32_t supply)
 {
     const struct families *families = course->families;
     uint32_t at = families->first[supply];
@@ -87,18 +100,59 @@ static uint8_t grant(struct course *course, uint64_t open, uint32_t supply)
     return IDLE;
 }
 
-/* The slots of a run that has been found fit. */
-static void give(const struct plan *plan, const struct families *families, struct state *state, const uint8_t *supplies, const uint64_t *declines,
-                 size_t slots, uint8_t *restrict out)
+/* Charges a leaf, the last of a path, and the hosts on the way to it. */
+static uint8_t charge(struct course *course, const uint32_t *path, uint32_t length)
 {
-    struct course course = {.plan = plan, .families = families, .state = state};
+    for (uint32_t k = 0; k < length; k++) {
+        if (--course->state->left[path[k]] == 0) course->ready &= ~((uint64_t)1 << path[k]);
+    }
+    return (uint8_t)path[length - 1];
+}
+
+/* The answer with the setting on: nobody is charged before a leaf is found. A host is not gone into where no leaf below it has slots left and takes one; where
+ * hosts in between have none left it is gone into in vain, and left out on the way back. */
+static uint8_t grant_on(struct course *course, uint64_t open, uint32_t supply)
+{
+    const struct families *families = course->families;
+    uint64_t to_try = course->ready & open, leaves = to_try & ~families->hosts;
+    uint32_t path[MOST_DEPTH], length = 0, at = families->first[supply];
+    for (;;) {
+        while (at != NO_CLASS && (families->classes[at].members & to_try) == 0) at = families->classes[at].next;
+        if (at == NO_CLASS) {
+            if (length == 0) return IDLE;
+            to_try &= ~((uint64_t)1 << path[--length]);
+            at = families->first[length == 0 ? supply : MOST_SUPPLIES + path[length - 1]];
+            continue;
+        }
+        uint32_t next = lowest_bit(families->classes[at].members & to_try);
+        int is_host = families->hosts >> next & 1;
+        if (is_host && (course->below[next] & leaves) == 0) {
+            to_try &= ~((uint64_t)1 << next);
+            continue;
+        }
+        path[length++] = next;
+        if (!is_host) return charge(course, path, length);
+        at = families->first[MOST_SUPPLIES + next];
+    }
+}
+
+/* The slots of a run that has been found fit. */
+static void give(uint8_t setting, const struct plan *plan, const struct families *families, struct state *state, const uint8_t *supplies,
+                 const uint64_t *declines, size_t slots, uint8_t *restrict out)
+{
+    uint64_t below[MOST_NODES];
+    struct course course = {.plan = plan, .families = families, .state = state, .below = below};
     uint32_t count = plan->supply_count;
     uint64_t clock = state->clock;
     begin(&course);
+    if (setting == ON) find_leaves_below(&course);
     for (size_t k = 0; k < slots; k++, clock++, out += count) {
         uint64_t open = ~declines[k] | families->hosts;
         if (clock == course.soonest) refill(&course, clock);
-        for (uint32_t i = 0; i < count; i++) out[i] = supplies[k] >> i & 1 ? grant(&course, open, i) : NOT_SUPPLIED;
+        for (uint32_t i = 0; i < count; i++) {
+            if ((supplies[k] >> i & 1) == 0) out[i] = NOT_SUPPLIED;
+            else out[i] = setting == ON ? grant_on(&course, open, i) : grant_off(&course, open, i);
+        }
     }
     state->clock = clock;
 }
@@ -115,30 +169,32 @@ uint64_t fast_fresh(const uint32_t *plan, size_t plan_len, uint64_t *state, size
     return 0;
 }
 
-uint64_t fast_step(const uint32_t *plan, size_t plan_len, uint64_t *state, size_t state_len, uint8_t supplied, uint64_t declines, uint8_t *grants,
-                   size_t grants_len)
+uint64_t fast_step(uint8_t setting, const uint32_t *plan, size_t plan_len, uint64_t *state, size_t state_len, uint8_t supplied, uint64_t declines,
+                   uint8_t *grants, size_t grants_len)
 {
     const struct plan *value = (const struct plan *)plan;
     struct state *going = (struct state *)state;
     struct families families;
     if (plan_len != PLAN_NUMBERS || state_len != STATE_NUMBERS || grants_len != GRANTS) return refusal(LENGTHS_DO_NOT_FIT, NOWHERE);
     memset(grants, NOT_SUPPLIED, GRANTS);
+    if (setting > ON) return refusal(KIND_UNKNOWN, NOWHERE);
     if (!fast_is_fit(value, &families) || !state_is_fit(value, going)) return refusal(NOT_FIT, NOWHERE);
     if (going->clock == LIMIT) return refusal(BEYOND_LIMIT, NOWHERE);
-    give(value, &families, going, &supplied, &declines, 1, grants);
+    give(setting, value, &families, going, &supplied, &declines, 1, grants);
     return 0;
 }
 
-uint64_t fast_run(const uint32_t *plan, size_t plan_len, uint64_t *state, size_t state_len, const uint8_t *supplies, size_t supplies_len,
+uint64_t fast_run(uint8_t setting, const uint32_t *plan, size_t plan_len, uint64_t *state, size_t state_len, const uint8_t *supplies, size_t supplies_len,
                   const uint64_t *declines, size_t declines_len, uint8_t *out, size_t out_len)
 {
     const struct plan *value = (const struct plan *)plan;
     struct state *going = (struct state *)state;
     struct families families;
     if (plan_len != PLAN_NUMBERS || state_len != STATE_NUMBERS) return refusal(LENGTHS_DO_NOT_FIT, NOWHERE);
+    if (setting > ON) return refusal(KIND_UNKNOWN, NOWHERE);
     if (!fast_is_fit(value, &families) || !state_is_fit(value, going)) return refusal(NOT_FIT, NOWHERE);
     if (supplies_len != declines_len || supplies_len > out_len / value->supply_count) return refusal(LENGTHS_DO_NOT_FIT, NOWHERE);
     if (supplies_len > LIMIT - going->clock) return refusal(BEYOND_LIMIT, NOWHERE);
-    give(value, &families, going, supplies, declines, supplies_len, out);
+    give(setting, value, &families, going, supplies, declines, supplies_len, out);
     return 0;
 }

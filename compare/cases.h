@@ -9,8 +9,6 @@
 void cases_of_pairs(uint64_t rounds);
 /* of_small.c: plans of few nodes and short periods, all of them */
 void cases_of_small_plans(void);
-/* Slots of a plan that is fit, from a fresh start and supplied as its types say, held to what is promised. */
-void check_promised(const uint32_t *fit, size_t slots);
 /* of_files.c, and the plan of document 01, section "Decisions to check against" */
 void cases_of_files(uint64_t rounds);
 enum { DOCUMENT_BYTES = 60 };
@@ -28,6 +26,8 @@ void cases_of_deep_plans(uint64_t rounds);
 void cases_of_turns(uint64_t rounds);
 /* of_whole.c: whole parents, and those that are nearly so */
 void cases_of_whole_parents(uint64_t rounds);
+/* of_settings.c: slots with the setting off and on, and settings that are none */
+void cases_of_settings(uint64_t rounds);
 /* of_times.c */
 void cases_of_times(uint64_t rounds);
 /* of_lengths.c: slices of wrong lengths, and of none */

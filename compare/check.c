@@ -3,6 +3,7 @@
 #include "meaning.h"
 #include "pages.h"
 #include "seen.h"
+#include "wasted.h"
 
 #include "../include/mettulos.h"
 #include "../model/model.h"
@@ -129,6 +130,12 @@ static int twin_agrees(const struct twin *twin)
 {
     return memcmp(copy_in(twin, twin->library), copy_in(twin, twin->model), twin->size + GUARD) == 0 && guard_stands(twin, twin->library) &&
            guard_stands(twin, twin->model);
+}
+
+/* Whether the slice is what it was, in both copies where they agree. */
+static int stands(const struct twin *twin)
+{
+    return memcmp(copy_in(twin, twin->model), twin->before, twin->size + GUARD) == 0;
 }
 
 /* ---- a pair of calls */
@@ -296,44 +303,63 @@ uint64_t check_fresh(const uint32_t *plan, size_t plan_len, uint64_t *state, siz
     return model;
 }
 
-uint64_t check_step(const uint32_t *plan, size_t plan_len, uint64_t *state, size_t state_len, uint8_t supplied, uint64_t declines, uint8_t *grants,
-                    size_t grants_len)
+/* What a refused step or run leaves, where both agree. */
+static void hold_refused(const struct made *made, const struct twin *answers, int all_not_supplied)
+{
+    for (int i = 0; i < made->slice_count; i++) {
+        if (made->slices[i] != answers && !stands(made->slices[i])) check_fail("both write to a slice in a refusal");
+    }
+    if (!all_not_supplied && !stands(answers)) check_fail("both write answers in a refusal");
+    const uint8_t *bytes = slice_in(answers, answers->model);
+    for (size_t i = 0; all_not_supplied && i < answers->size; i++) {
+        if (bytes[i] != METTULOS_NOT_SUPPLIED) check_fail("an answer of a refused step is not 255");
+    }
+}
+
+uint64_t check_step(uint8_t setting, const uint32_t *plan, size_t plan_len, uint64_t *state, size_t state_len, uint8_t supplied, uint64_t declines,
+                    uint8_t *grants, size_t grants_len)
 {
     struct twin *value = &first_slice, *numbers = &second_slice, *answers = &third_slice;
-    struct made made = {STEP, "supplied, declines", {supplied, declines}, 2, {value, numbers, answers}, 3};
+    struct made made = {STEP, "setting, supplied, declines", {setting, supplied, declines}, 3, {value, numbers, answers}, 3};
     set_twin(value, "plan", plan, plan_len * sizeof *plan);
     set_twin(numbers, "state", state, state_len * sizeof *state);
     set_twin(answers, "grants", NULL, grants_len);
     now_the_library(&made);
     uint64_t library =
-        mettulos_step(library_slice(value), plan_len, library_slice(numbers), state_len, supplied, declines, library_slice(answers), grants_len);
+        mettulos_step(setting, library_slice(value), plan_len, library_slice(numbers), state_len, supplied, declines, library_slice(answers), grants_len);
     now_the_model();
-    uint64_t model = model_step(model_slice(value), plan_len, model_slice(numbers), state_len, supplied, declines, model_slice(answers), grants_len);
+    uint64_t model = model_step(setting, model_slice(value), plan_len, model_slice(numbers), state_len, supplied, declines, model_slice(answers), grants_len);
     agreed(&made, library, model);
-    if (model == 0) seen_step(plan, state, model_slice(numbers), model_slice(answers));
+    if (model == 0) seen_step(setting, plan, state, model_slice(numbers), model_slice(answers));
+    if (model == 0 && setting == METTULOS_ON)
+        nothing_wasted(&(struct gone){plan, 1, &supplied, &declines, model_slice(answers), state, model_slice(numbers)});
+    if (model != 0) hold_refused(&made, answers, METTULOS_NUMBER(model) != METTULOS_BAD_LENGTH);
     copy_back(state, numbers);
     copy_back(grants, answers);
     return model;
 }
 
-uint64_t check_run(const uint32_t *plan, size_t plan_len, uint64_t *state, size_t state_len, const uint8_t *supplies, size_t supplies_len,
+uint64_t check_run(uint8_t setting, const uint32_t *plan, size_t plan_len, uint64_t *state, size_t state_len, const uint8_t *supplies, size_t supplies_len,
                    const uint64_t *declines, size_t declines_len, uint8_t *out, size_t out_len)
 {
     struct twin *value = &first_slice, *numbers = &second_slice, *answers = &third_slice, *supplied = &fourth_slice, *declined = &fifth_slice;
-    struct made made = {RUN, "", {0}, 0, {value, numbers, supplied, declined, answers}, 5};
+    struct made made = {RUN, "setting", {setting}, 1, {value, numbers, supplied, declined, answers}, 5};
     set_twin(value, "plan", plan, plan_len * sizeof *plan);
     set_twin(numbers, "state", state, state_len * sizeof *state);
     set_twin(supplied, "supplies", supplies, supplies_len);
     set_twin(declined, "declines", declines, declines_len * sizeof *declines);
     set_twin(answers, "out", NULL, out_len);
     now_the_library(&made);
-    uint64_t library = mettulos_run(library_slice(value), plan_len, library_slice(numbers), state_len, library_slice(supplied), supplies_len,
+    uint64_t library = mettulos_run(setting, library_slice(value), plan_len, library_slice(numbers), state_len, library_slice(supplied), supplies_len,
                                     library_slice(declined), declines_len, library_slice(answers), out_len);
     now_the_model();
-    uint64_t model = model_run(model_slice(value), plan_len, model_slice(numbers), state_len, model_slice(supplied), supplies_len, model_slice(declined),
-                               declines_len, model_slice(answers), out_len);
+    uint64_t model = model_run(setting, model_slice(value), plan_len, model_slice(numbers), state_len, model_slice(supplied), supplies_len,
+                               model_slice(declined), declines_len, model_slice(answers), out_len);
     agreed(&made, library, model);
-    if (model == 0) seen_run(plan, state, supplies_len, model_slice(answers));
+    if (model == 0) seen_run(setting, plan, state, supplies_len, model_slice(answers));
+    if (model == 0 && setting == METTULOS_ON)
+        nothing_wasted(&(struct gone){plan, supplies_len, supplies, declines, model_slice(answers), state, model_slice(numbers)});
+    if (model != 0) hold_refused(&made, answers, 0);
     copy_back(state, numbers);
     copy_back(out, answers);
     return model;

@@ -45,6 +45,7 @@ int main(int count, char **words)
     cases_of_deep_plans(rounds);
     cases_of_turns(rounds);
     cases_of_whole_parents(rounds);
+    cases_of_settings(rounds);
     cases_of_times(rounds);
     cases_of_lengths(rounds);
     int seldom = seen_report(rounds);

@@ -1,4 +1,4 @@
-/* Plan values, states, supplies and declines made by chance. */
+/* Plan values, states, settings, supplies and declines made by chance. */
 #include "inputs.h"
 
 #include "../include/mettulos.h"
@@ -64,15 +64,51 @@ static uint64_t odd_clock(void)
     }
 }
 
+/* The host that a node hangs under, or NO_HOST. */
+enum { NO_HOST = 64 };
+
+static uint32_t host_of(const uint32_t *plan, uint32_t i)
+{
+    uint32_t parent = plan[AT_NODES + 6 * i + 1];
+    return parent >= 128 ? parent - 128 : NO_HOST;
+}
+
 void odd_state(const uint32_t *plan, uint64_t *state)
 {
-    uint64_t unused = chance(50) ? 65536 : 1;
+    uint64_t unused = chance(50) ? 65536 : 1, spent = chance(30) ? chance_bits() & chance_bits() : 0; /* the hosts whose children have nothing left, as bits */
     state[0] = odd_clock();
     for (uint32_t i = 0; i < 64; i++) {
         uint32_t served = plan[AT_NODES + 6 * i + 4];
         if (i >= plan[AT_NODE_COUNT]) state[1 + i] = chance_below(unused);
+        else if (host_of(plan, i) != NO_HOST && (spent >> host_of(plan, i) & 1) == 1) state[1 + i] = 0;
         else state[1 + i] = chance(50) ? served : chance_below(served + 1u);
     }
+}
+
+/* ---- settings */
+
+void inputs_settings(struct inputs *inputs, enum course course)
+{
+    uint8_t setting = course == ALL_ON || (course == MIXED && chance(50)) ? METTULOS_ON : METTULOS_OFF;
+    uint64_t length = 2 + chance_below(inputs->slots / 4 + 1); /* of a stretch, on the average */
+    for (size_t k = 0; k < inputs->slots + 8; k++) {
+        if (course == MIXED && chance_below(length) == 0) setting = METTULOS_ON - setting;
+        inputs->settings[k] = setting;
+    }
+}
+
+size_t inputs_stretch(const struct inputs *inputs, size_t from, size_t most)
+{
+    size_t slots = 0;
+    while (slots < most && inputs->settings[from + slots] == inputs->settings[from]) slots++;
+    return slots;
+}
+
+uint8_t any_setting(void)
+{
+    static const uint8_t edges[] = {2, 3, 127, 128, 254, 255};
+    if (chance(60)) return (uint8_t)chance_below(2);
+    return chance(70) ? edges[chance_below(sizeof edges)] : (uint8_t)chance_bits();
 }
 
 /* ---- supplies and declines */
@@ -103,6 +139,20 @@ static enum density decline_density(void)
     return all[chance_below(sizeof all / sizeof *all)];
 }
 
+/* Has all leaves below some hosts decline beside those that do. Which hosts these are changes now and then. */
+static void decline_below_hosts(struct inputs *inputs, const uint32_t *plan)
+{
+    uint64_t below[NO_HOST + 1] = {0}, declining = 0; /* below each host its leaves */
+    for (uint32_t i = plan[AT_NODE_COUNT]; i-- > 0;) below[host_of(plan, i)] |= plan[AT_NODES + 6 * i] == 2 ? below[i] : (uint64_t)1 << i;
+    for (size_t k = 0; k < inputs->slots + 8; k++) {
+        if (k == 0 || chance_below(8) == 0) {
+            declining = 0;
+            for (uint64_t hosts = 1 + chance_below(6); hosts > 0; hosts--) declining |= below[chance_below(plan[AT_NODE_COUNT])];
+        }
+        inputs->declines[k] |= declining;
+    }
+}
+
 void inputs_by_chance(struct inputs *inputs, const uint32_t *plan, size_t slots)
 {
     enum density supplied = supply_density(), declined = decline_density();
@@ -118,6 +168,8 @@ void inputs_by_chance(struct inputs *inputs, const uint32_t *plan, size_t slots)
         inputs->declines[k] = bits_of(declined) & leaves;
         inputs->declines[k] |= bits_of(idle_bits) & ~leaves;
     }
+    if (chance(40)) decline_below_hosts(inputs, plan);
+    inputs_settings(inputs, (enum course)chance_below(COURSES));
 }
 
 /* Supplies a core in at least C slots of each of its periods; where it is sparing, in no more. */

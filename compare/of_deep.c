@@ -39,8 +39,9 @@ static void deep_values(uint64_t rounds)
         if (check_fresh(plan, METTULOS_PLAN, state, METTULOS_STATE) != 0) check_fail("a deep plan value that should be sound is refused");
         if (filled) seen(UNUSED_JUNK_IGNORED);
         if (!break_unused(plan)) continue;
-        uint64_t of_step = check_step(plan, METTULOS_PLAN, state, METTULOS_STATE, 255, 0, grants, 8);
-        uint64_t of_run = check_run(plan, METTULOS_PLAN, state, METTULOS_STATE, NULL, 0, NULL, 0, grants, 0);
+        uint8_t setting = (uint8_t)chance_below(2);
+        uint64_t of_step = check_step(setting, plan, METTULOS_PLAN, state, METTULOS_STATE, 255, 0, grants, 8);
+        uint64_t of_run = check_run(setting, plan, METTULOS_PLAN, state, METTULOS_STATE, NULL, 0, NULL, 0, grants, 0);
         uint64_t of_fresh = check_fresh(plan, METTULOS_PLAN, state, METTULOS_STATE);
         if (METTULOS_NUMBER(of_step) != 16 || of_run != of_step || of_fresh != of_step) check_fail("a number beyond its field is taken");
         seen(UNUSED_BEYOND_FIELD);

@@ -27,7 +27,7 @@ static void wrong_lengths_of_answers(void)
         check_decide((struct pair){0, 1, (uint16_t)chance_below(2), 0, 1, 8}, 7, but(4, len), numbers);
         check_name(plan_of_the_document, DOCUMENT_BYTES, chance_below(4), but(2, len));
         check_times((uint32_t)chance_below(3), 1, chance(50) ? 5 : UINT64_MAX, but(1, len));
-        check_step(plan, METTULOS_PLAN, state, METTULOS_STATE, 255, 0, grants, but(8, len));
+        check_step(any_setting(), plan, METTULOS_PLAN, state, METTULOS_STATE, 255, 0, grants, but(8, len));
     }
 }
 
@@ -36,11 +36,11 @@ static void wrong_lengths_of_plans_and_states(void)
     for (size_t len = 0; len < MOST_LENGTH; len++) {
         check_read(plan_of_the_document, DOCUMENT_BYTES - chance_below(2), plan, but(METTULOS_PLAN, len));
         check_fresh(plan, but(METTULOS_PLAN, len), state, METTULOS_STATE);
-        check_step(plan, but(METTULOS_PLAN, len), state, METTULOS_STATE, 255, 0, grants, 8);
-        check_run(plan, but(METTULOS_PLAN, len), state, METTULOS_STATE, inputs.supplies, 4, inputs.declines, 4, answers, 4);
+        check_step(any_setting(), plan, but(METTULOS_PLAN, len), state, METTULOS_STATE, 255, 0, grants, 8);
+        check_run(any_setting(), plan, but(METTULOS_PLAN, len), state, METTULOS_STATE, inputs.supplies, 4, inputs.declines, 4, answers, 4);
         check_fresh(plan, METTULOS_PLAN, state, but(METTULOS_STATE, len));
-        check_step(plan, METTULOS_PLAN, state, but(METTULOS_STATE, len), 255, 0, grants, 8);
-        check_run(plan, METTULOS_PLAN, state, but(METTULOS_STATE, len), inputs.supplies, 4, inputs.declines, 4, answers, 4);
+        check_step(any_setting(), plan, METTULOS_PLAN, state, but(METTULOS_STATE, len), 255, 0, grants, 8);
+        check_run(any_setting(), plan, METTULOS_PLAN, state, but(METTULOS_STATE, len), inputs.supplies, 4, inputs.declines, 4, answers, 4);
     }
 }
 
@@ -56,7 +56,7 @@ static void wrong_lengths(void)
     for (size_t supplies = 0; supplies < 8; supplies++) {
         for (size_t declines = 0; declines < 8; declines++) {
             for (size_t room = 0; room < 10; room++) {
-                check_run(plan, METTULOS_PLAN, state, METTULOS_STATE, inputs.supplies, supplies, inputs.declines, declines, answers, room);
+                check_run(any_setting(), plan, METTULOS_PLAN, state, METTULOS_STATE, inputs.supplies, supplies, inputs.declines, declines, answers, room);
             }
         }
     }
@@ -77,11 +77,12 @@ static void empty_slices(uint64_t rounds)
         odd_state(plan, state);
         inputs_by_chance(&inputs, plan, slots);
         if (chance(50)) all = 0;
-        check_run(plan, METTULOS_PLAN, state, METTULOS_STATE, inputs.supplies, all, inputs.declines, all, answers, or_none(all * plan[2]));
-        check_run(plan, METTULOS_PLAN, state, METTULOS_STATE, inputs.supplies, or_none(slots), inputs.declines, or_none(slots), answers, or_none(8 * slots));
-        check_run(plan, or_none(METTULOS_PLAN), state, or_none(METTULOS_STATE), inputs.supplies, or_none(slots), inputs.declines, or_none(slots), answers,
+        check_run(any_setting(), plan, METTULOS_PLAN, state, METTULOS_STATE, inputs.supplies, all, inputs.declines, all, answers, or_none(all * plan[2]));
+        check_run(any_setting(), plan, METTULOS_PLAN, state, METTULOS_STATE, inputs.supplies, or_none(slots), inputs.declines, or_none(slots), answers,
                   or_none(8 * slots));
-        check_step(plan, or_none(METTULOS_PLAN), state, or_none(METTULOS_STATE), 255, 0, grants, or_none(8));
+        check_run(any_setting(), plan, or_none(METTULOS_PLAN), state, or_none(METTULOS_STATE), inputs.supplies, or_none(slots), inputs.declines,
+                  or_none(slots), answers, or_none(8 * slots));
+        check_step(any_setting(), plan, or_none(METTULOS_PLAN), state, or_none(METTULOS_STATE), 255, 0, grants, or_none(8));
         check_fresh(plan, or_none(METTULOS_PLAN), state, or_none(METTULOS_STATE));
         check_read(plan_of_the_document, or_none(DOCUMENT_BYTES), plan, or_none(METTULOS_PLAN));
         check_name(plan_of_the_document, or_none(DOCUMENT_BYTES), 0, or_none(2));

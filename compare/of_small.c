@@ -1,29 +1,17 @@
-/* All plans of one core and two leaves with short periods, the leaves under the core or below a host; those that are accepted are held to what is promised. */
+/* All plans of one core and two leaves with short periods, the leaves under the core, below a host, or one below a host and one beside it; those that are
+ * accepted are held to what is promised. */
 #include "cases.h"
 #include "check.h"
+#include "courses.h"
 #include "generate.h"
-#include "inputs.h"
-#include "promised.h"
 #include "seen.h"
 
 #include "../include/mettulos.h"
 
-enum { MOST_OWN_T = 4, MOST_SERVED_T = 6, SLOTS = 24, HOST = 2 };
+enum { MOST_OWN_T = 4, MOST_SERVED_T = 6, MOST_BESIDE_T = 4, SLOTS = 24, HOST = 2 };
 
 static uint8_t bytes[MOST_BYTES];
 static uint32_t plan[METTULOS_PLAN];
-
-void check_promised(const uint32_t *fit, size_t slots)
-{
-    static struct inputs inputs;
-    static uint8_t answers[8 * MOST_SLOTS];
-    uint64_t state[METTULOS_STATE];
-    check_fresh(fit, METTULOS_PLAN, state, METTULOS_STATE);
-    inputs_in_keeping(&inputs, fit, slots);
-    uint64_t refused = check_run(fit, METTULOS_PLAN, state, METTULOS_STATE, inputs.supplies, slots, inputs.declines, slots, answers, slots * fit[2]);
-    if (refused != 0) check_fail("a run that should go through is refused");
-    promised(&(struct given){fit, slots, inputs.supplies, inputs.declines, answers});
-}
 
 /* All types in the order of T and then C. */
 static const struct drafted_type first_type = {0, 1};
@@ -60,6 +48,25 @@ static void all_leaves(struct draft *draft, uint8_t parent)
     }
 }
 
+/* A host that wants what it is served, a leaf below it and a leaf beside it. */
+static void all_beside(void)
+{
+    struct draft draft = {1, 1, 1, {{1, 1}}, 3, {{HOST, 0, first_type, first_type, 1, {'h'}}}};
+    struct drafted_node *host = &draft.nodes[0], *below = &draft.nodes[1], *beside = &draft.nodes[2];
+    *below = (struct drafted_node){0, 128, first_type, first_type, 1, {'x'}};
+    *beside = (struct drafted_node){0, 0, first_type, first_type, 1, {'y'}};
+    for (host->served = first_type; host->served.t <= MOST_BESIDE_T; host->served = next_type(host->served)) {
+        for (below->served = first_type; below->served.t <= MOST_BESIDE_T; below->served = next_type(below->served)) {
+            for (beside->served = first_type; beside->served.t <= MOST_BESIDE_T; beside->served = next_type(beside->served)) {
+                host->wanted = host->served;
+                below->wanted = below->served;
+                beside->wanted = beside->served;
+                small_plan(&draft);
+            }
+        }
+    }
+}
+
 void cases_of_small_plans(void)
 {
     static const struct drafted_type served[] = {{4, 4}, {6, 6}};
@@ -75,4 +82,6 @@ void cases_of_small_plans(void)
             all_leaves(&draft, 128);
         }
     }
+    seen_kind("plans of a host, a leaf below it and a leaf beside it with T at most 4, all");
+    all_beside();
 }

@@ -1,8 +1,8 @@
 /* Slots given out under plans that are served at every depth: long runs, and runs and steps in turn over the same state. */
 #include "cases.h"
 #include "check.h"
+#include "courses.h"
 #include "deep.h"
-#include "inputs.h"
 #include "promised.h"
 #include "seen.h"
 
@@ -26,26 +26,28 @@ static void deep_plan(uint64_t *state, size_t slots)
     if (state[0] > LAST - slots) state[0] = LAST - slots - chance_below(2);
 }
 
+/* With the setting of the first slot. */
 static uint64_t run(uint64_t *state, size_t from, size_t slots, uint8_t *out, size_t room)
 {
-    return check_run(plan, METTULOS_PLAN, state, METTULOS_STATE, inputs.supplies + from, slots, inputs.declines + from, slots, out, room);
+    return check_run(inputs.settings[from], plan, METTULOS_PLAN, state, METTULOS_STATE, inputs.supplies + from, slots, inputs.declines + from, slots, out,
+                     room);
 }
 
 static void step(uint64_t *state, size_t at)
 {
     uint8_t grants[8];
-    if (check_step(plan, METTULOS_PLAN, state, METTULOS_STATE, inputs.supplies[at], inputs.declines[at], grants, 8) != 0)
+    if (check_step(inputs.settings[at], plan, METTULOS_PLAN, state, METTULOS_STATE, inputs.supplies[at], inputs.declines[at], grants, 8) != 0)
         check_fail("a step that should go through is refused");
     memcpy(in_pieces + at * plan[2], grants, plan[2]);
 }
 
-/* All slots of the inputs, a run and some steps in turn. */
+/* All slots of the inputs, each with its setting, a run and some steps in turn. */
 static void go_in_turns(uint64_t *state)
 {
     size_t at = 0;
     int stepped = chance(50);
     while (at < inputs.slots) {
-        size_t left = inputs.slots - at, slots = chance_below(left < 16 || chance(50) ? left + 1 : left / 8);
+        size_t left = inputs.slots - at, slots = inputs_stretch(&inputs, at, chance_below(left < 16 || chance(50) ? left + 1 : left / 8));
         if (run(state, at, slots, in_pieces + at * plan[2], slots * plan[2]) != 0) check_fail("a run that should go through is refused");
         if (at > 0 && slots > 0 && stepped) seen(RUN_AFTER_STEP);
         at += slots;
@@ -73,24 +75,39 @@ static int is_fresh(const uint64_t *state)
     return full && state[0] == 0;
 }
 
-/* Runs and steps in turn, and one run over all their slots: the same answers and the same state. From a fresh start the answers are as promised. */
+/* The answers, to which the inputs lead from a fresh start, are as promised. */
+static void hold_fresh(const uint64_t *state, const uint8_t *answers)
+{
+    if (is_fresh(state)) promised(&(struct given){plan, inputs.slots, inputs.settings, inputs.supplies, inputs.declines, answers});
+}
+
+/* Runs and steps in turn, and as few runs as there can be over all their slots: the same answers and the same state. From a fresh start the answers are as
+ * promised. Where all have one setting, so are those with the other. */
 static void turns(uint64_t rounds)
 {
-    uint64_t by_turns[METTULOS_STATE], by_run[METTULOS_STATE];
-    seen_kind("runs and steps in turn under deep plans, and one run over all of it");
+    uint64_t start[METTULOS_STATE], by_turns[METTULOS_STATE], by_run[METTULOS_STATE];
+    seen_kind("runs and steps in turn under deep plans, and as few runs as can be over all of it");
     for (uint64_t round = 0; round < rounds; round++) {
         size_t slots = slots_of_round(round);
-        deep_plan(by_turns, slots);
-        memcpy(by_run, by_turns, sizeof by_run);
-        int fresh = is_fresh(by_turns);
-        if (fresh && chance(70)) inputs_in_keeping(&inputs, plan, slots);
+        enum course course = (enum course)(round % COURSES);
+        deep_plan(start, slots);
+        memcpy(by_turns, start, sizeof start);
+        memcpy(by_run, start, sizeof start);
+        if (is_fresh(start) && chance(70)) inputs_in_keeping(&inputs, plan, slots);
         else inputs_by_chance(&inputs, plan, slots);
+        inputs_settings(&inputs, course);
         go_in_turns(by_turns);
-        if (run(by_run, 0, slots, whole, slots * plan[2] + chance_below(3)) != 0) check_fail("a run that should go through is refused");
+        course_run(plan, by_run, &inputs, slots, whole);
         check_bytes("the state after a run is not the state after its pieces", by_run, by_turns, sizeof by_run);
         check_bytes("the answers of a run are not those of its pieces", whole, in_pieces, slots * plan[2]);
         seen(PIECES_AS_A_WHOLE);
-        if (fresh) promised(&(struct given){plan, slots, inputs.supplies, inputs.declines, whole});
+        hold_fresh(start, whole);
+        if (course == MIXED) continue;
+        memcpy(by_run, start, sizeof start);
+        inputs_settings(&inputs, course == ALL_OFF ? ALL_ON : ALL_OFF);
+        course_run(plan, by_run, &inputs, slots, in_pieces);
+        course_see(plan, slots, whole, in_pieces);
+        hold_fresh(start, in_pieces);
     }
 }
 
@@ -123,9 +140,9 @@ static void deep_steps(uint64_t rounds)
     uint64_t state[METTULOS_STATE];
     seen_kind("steps under deep plans");
     for (uint64_t round = 0; round < rounds; round++) {
-        deep_plan(state, 20);
-        inputs_by_chance(&inputs, plan, 20);
-        for (size_t at = 0; at < 20; at++) step(state, at);
+        deep_plan(state, 10);
+        inputs_by_chance(&inputs, plan, 10);
+        for (size_t at = 0; at < 10; at++) step(state, at);
     }
 }
 
@@ -142,7 +159,8 @@ static void last_slots(uint64_t rounds)
         inputs_by_chance(&inputs, plan, slots);
         if (METTULOS_NUMBER(run(state, 0, slots + 1, whole, (slots + 1) * plan[2])) != 15) check_fail("a run goes past 2^40");
         if (run(state, 0, slots, whole, slots * plan[2]) != 0) check_fail("a run up to 2^40 is refused");
-        if (METTULOS_NUMBER(check_step(plan, METTULOS_PLAN, state, METTULOS_STATE, 255, 0, grants, 8)) != 15) check_fail("a step goes past 2^40");
+        uint64_t of_step = check_step(inputs.settings[0], plan, METTULOS_PLAN, state, METTULOS_STATE, 255, 0, grants, 8);
+        if (METTULOS_NUMBER(of_step) != 15) check_fail("a step goes past 2^40");
         if (run(state, 0, 0, whole, 0) != 0) check_fail("a run of nothing at 2^40 is refused");
     }
 }
@@ -161,7 +179,7 @@ static void refused_turns(uint64_t rounds)
         uint32_t i = chance(20) ? plan[19] - 1 : (uint32_t)chance_below(plan[19]);
         state[1 + i] = plan[20 + 6 * i + 4] + 1 + (chance(70) ? 0 : chance_bits() >> 32);
         uint64_t of_run = run(state, 0, slots, whole, slots * plan[2]);
-        uint64_t of_step = check_step(plan, METTULOS_PLAN, state, METTULOS_STATE, 255, 0, grants, 8);
+        uint64_t of_step = check_step(inputs.settings[0], plan, METTULOS_PLAN, state, METTULOS_STATE, 255, 0, grants, 8);
         if (METTULOS_NUMBER(of_run) != 16 || of_step != of_run) check_fail("a node has more left than it is served, and a slot is given");
     }
 }

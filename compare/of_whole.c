@@ -1,13 +1,12 @@
 /* Parents that give all slots (document 02, request 2), and those that nearly do. */
 #include "cases.h"
 #include "check.h"
+#include "courses.h"
 #include "deep.h"
-#include "inputs.h"
 #include "seen.h"
+#include "told.h"
 
 #include "../include/mettulos.h"
-
-#include <string.h>
 
 static uint8_t bytes[MOST_BYTES];
 static uint32_t plan[METTULOS_PLAN];
@@ -27,19 +26,6 @@ static void expect(const struct draft *draft, uint32_t number, uint32_t place)
 }
 
 /* ---- plans that are told one by one */
-
-/* A leaf that wants what it is served, and a host. */
-#define LEAF(parent, c, t) {0, parent, {c, t}, {c, t}, 0, {0}}
-#define HOST(parent, wanted_c, wanted_t, served_c, served_t) {2, parent, {wanted_c, wanted_t}, {served_c, served_t}, 0, {0}}
-enum { BELOW_FIRST = 128, BELOW_SECOND = 129 }; /* as parents */
-
-/* One core with some nodes, and by which number and where the plan is refused. */
-struct told {
-    struct drafted_type supply;
-    uint8_t node_count;
-    struct drafted_node nodes[4];
-    uint32_t number, place;
-};
 
 static const struct told told[] = {
     /* a core of (4,4), all of whose slots may be served in another period; and one of (3,4) */
@@ -90,19 +76,6 @@ static const struct told told[] = {
     {{4095, 4095}, 2, {LEAF(0, 4095, 4096), LEAF(0, 1, 2048)}, 14, 1},
 };
 
-static void draft_told(struct draft *draft, const struct told *one)
-{
-    memset(draft, 0, sizeof *draft);
-    draft->p = draft->q = draft->supply_count = 1;
-    draft->supplies[0] = one->supply;
-    draft->node_count = one->node_count;
-    for (uint8_t i = 0; i < one->node_count; i++) {
-        draft->nodes[i] = one->nodes[i];
-        draft->nodes[i].name_length = 1;
-        draft->nodes[i].name[0] = (uint8_t)('a' + i);
-    }
-}
-
 static void plans_told(void)
 {
     struct draft draft;
@@ -117,7 +90,8 @@ static void plans_told(void)
     check_every_change(bytes, draft_bytes(&draft, bytes));
 }
 
-/* Twelve slots of three plans, worked out by hand: every core supplied, nobody declining. The shorter period goes first. */
+/* Twelve slots of three plans, worked out by hand: every core supplied, nobody declining. The shorter period goes first, and no host is passed in vain, so that
+ * the setting makes no difference. */
 static void slots_told(void)
 {
     static const struct {
@@ -137,9 +111,11 @@ static void slots_told(void)
     for (size_t k = 0; k < sizeof listed / sizeof *listed; k++) {
         draft_told(&draft, &listed[k].plan);
         expect(&draft, 0, 0);
-        check_fresh(plan, METTULOS_PLAN, state, METTULOS_STATE);
-        check_run(plan, METTULOS_PLAN, state, METTULOS_STATE, supplies, 12, declines, 12, answers, 12);
-        check_bytes("the slots under a whole parent are not those worked out by hand", answers, listed[k].slots, 12);
+        for (uint8_t setting = METTULOS_OFF; setting <= METTULOS_ON; setting++) {
+            check_fresh(plan, METTULOS_PLAN, state, METTULOS_STATE);
+            check_run(setting, plan, METTULOS_PLAN, state, METTULOS_STATE, supplies, 12, declines, 12, answers, 12);
+            check_bytes("the slots under a whole parent are not those worked out by hand", answers, listed[k].slots, 12);
+        }
     }
 }
 

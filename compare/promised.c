@@ -73,7 +73,14 @@ static void hold_periods(const struct given *given, uint32_t i)
     }
 }
 
-static void hold_windows(const struct given *given, uint32_t i)
+static enum course course_of(const struct given *given)
+{
+    size_t on = 0;
+    for (size_t slot = 0; slot < given->slots; slot++) on += given->settings[slot];
+    return on == 0 ? ALL_OFF : on == given->slots ? ALL_ON : MIXED;
+}
+
+static void hold_windows(const struct given *given, uint32_t i, enum course course)
 {
     struct node node = node_of(given->plan, i);
     size_t apart = node.kind == ALIGNED_LEAF ? node.wanted_t : 1;
@@ -88,19 +95,20 @@ static void hold_windows(const struct given *given, uint32_t i)
         windows++;
         just += granted == node.wanted_c;
     }
-    if (node.wanted_c > 0) seen_windows(given->plan, i, windows, just);
+    if (node.wanted_c > 0) seen_windows(given->plan, i, course, windows, just);
 }
 
 void promised(const struct given *given)
 {
     uint32_t core_of[64], keeping = 0; /* bit i where core i keeps its type */
+    enum course course = course_of(given);
     for (uint32_t core = 0; core < given->plan[AT_SUPPLY_COUNT]; core++) keeping |= (uint32_t)keeps_its_type(given, core) << core;
     for (uint32_t i = 0; i < given->plan[AT_NODE_COUNT]; i++) {
         struct node node = node_of(given->plan, i);
         core_of[i] = node.parent < 128 ? node.parent : core_of[node.parent - 128];
         count_slots(given, i, core_of[i]);
         hold_periods(given, i);
-        if (node.kind != HOST && (keeping >> core_of[i] & 1) == 1) hold_windows(given, i);
+        if (node.kind != HOST && (keeping >> core_of[i] & 1) == 1) hold_windows(given, i, course);
     }
     seen_case();
 }

@@ -14,9 +14,9 @@
  * fewer rounds than the thousand of the gate nothing is asked, since chance has too large a part in small counts. A hundred, with which a fault that shows in
  * one of ten is missed once in 37,000 times, are enough where what is counted is long or split finely: a run of a thousand slots or more, whose slots count by
  * themselves; a rule broken at one depth, where each rule has its thousand over all depths; calls that grant at one depth under one number of cores, or at one
- * depth to leaves of odd periods, whose grants have their thousand (those of one call are much alike, which is why the calls are counted too); whole hosts of
- * one depth; leaves that had just what they want in some window, among a thousand that were held to it; a slice that is NULL, where little but what goes with
- * it is left to chance. */
+ * depth to leaves of odd periods, or after a host beside was passed in vain, whose grants have their thousand (those of one call are much alike, which is why
+ * the calls are counted too); whole hosts of one depth; leaves that had just what they want in some window, among a thousand that were held to it; a slice that
+ * is NULL, where little but what goes with it is left to chance. */
 enum { ENOUGH = 1000, ENOUGH_OF_A_PART = 100 };
 
 static uint64_t rounds_made;
@@ -59,8 +59,8 @@ static const uint32_t answers_of[CALLS] = {
     0x7FFF | BIT(17), /* 0 to 14 */
     BIT(0) | BIT(17),
     BIT(0) | BIT(16) | BIT(17),
-    BIT(0) | BIT(15) | BIT(16) | BIT(17),
-    BIT(0) | BIT(15) | BIT(16) | BIT(17),
+    BIT(0) | BIT(5) | BIT(15) | BIT(16) | BIT(17),
+    BIT(0) | BIT(5) | BIT(15) | BIT(16) | BIT(17),
     BIT(0) | BIT(15) | BIT(16) | BIT(17),
     BIT(0) | BIT(15) | BIT(16) | BIT(17),
     BIT(0) | BIT(15) | BIT(16) | BIT(17),
@@ -233,7 +233,7 @@ void seen(enum thing thing)
 
 /* ---- slots */
 
-static uint64_t slots_given, slots_past_half, long_runs, odd_counts_kept;
+static uint64_t slots_given[2], slots_past_half, long_runs, odd_counts_kept; /* slots by the setting */
 static uint64_t granted[9][9];      /* by the number of cores and the depth of the leaf */
 static uint64_t granting[9][9];     /* the calls with such a grant */
 static uint64_t granted_kind[2][9]; /* by the kind of the leaf and its depth */
@@ -241,11 +241,11 @@ static uint64_t granted_odd[9];     /* to a leaf of an odd period, or below a ho
 static uint64_t granting_odd[9];    /* the calls with a grant to a leaf of an odd period, by its depth */
 static uint64_t granted_core[8], granted_leaf[64], granted_scarce[2];
 static uint64_t idle_core[8], missing_core[8];
-static uint64_t idle_below[9]; /* by the depth of the last host that was charged, 0 where none was */
+static uint64_t idle_below[9]; /* with the setting off: by the depth of the last host that was charged, 0 where none was */
 static uint64_t idle_without_children;
 
 /* The answers of some slots, and what stands past the last node. */
-static void see_answers(const uint32_t *plan, const struct places *places, const uint64_t *before, size_t slots, const uint8_t *out)
+static void see_answers(uint8_t setting, const uint32_t *plan, const struct places *places, const uint64_t *before, size_t slots, const uint8_t *out)
 {
     uint32_t cores = plan[2], depths = 0, odd = 0; /* bit d where a leaf of depth d, and one of an odd period, was granted something */
     for (size_t k = 0; k < slots * cores; k++) {
@@ -267,7 +267,7 @@ static void see_answers(const uint32_t *plan, const struct places *places, const
         granting[cores][depth] += depths >> depth & 1;
         granting_odd[depth] += odd >> depth & 1;
     }
-    slots_given += slots;
+    slots_given[setting] += slots;
     if (before[0] >= (uint64_t)1 << 39) slots_past_half += slots;
     for (uint32_t i = plan[AT_NODE_COUNT]; i < 64; i++) {
         if (before[1 + i] == 0) continue;
@@ -276,11 +276,11 @@ static void see_answers(const uint32_t *plan, const struct places *places, const
     }
 }
 
-void seen_run(const uint32_t *plan, const uint64_t *before, size_t slots, const uint8_t *out)
+void seen_run(uint8_t setting, const uint32_t *plan, const uint64_t *before, size_t slots, const uint8_t *out)
 {
     struct places places;
     find_places(plan, &places);
-    see_answers(plan, &places, before, slots, out);
+    see_answers(setting, plan, &places, before, slots, out);
     long_runs += slots >= LONG_RUN;
 }
 
@@ -299,17 +299,14 @@ static int was_charged(const uint32_t *plan, const uint64_t *before, const uint6
     return after[1 + i] < left;
 }
 
-void seen_step(const uint32_t *plan, const uint64_t *before, const uint64_t *after, const uint8_t *grants)
+static void see_idle(const uint32_t *plan, const struct places *places, const uint64_t *before, const uint64_t *after, const uint8_t *grants)
 {
-    struct places places;
     uint32_t last[8], depth[8] = {0};
-    find_places(plan, &places);
-    see_answers(plan, &places, before, 1, grants);
     for (uint32_t i = 0; i < plan[AT_NODE_COUNT]; i++) {
-        uint32_t core = places.supply[i];
-        if (!was_charged(plan, before, after, i) || places.depth[i] <= depth[core]) continue;
+        uint32_t core = places->supply[i];
+        if (!was_charged(plan, before, after, i) || places->depth[i] <= depth[core]) continue;
         last[core] = i;
-        depth[core] = places.depth[i];
+        depth[core] = places->depth[i];
     }
     for (uint32_t core = 0; core < plan[2]; core++) {
         if (grants[core] != IDLE) continue;
@@ -318,11 +315,42 @@ void seen_step(const uint32_t *plan, const uint64_t *before, const uint64_t *aft
     }
 }
 
+void seen_step(uint8_t setting, const uint32_t *plan, const uint64_t *before, const uint64_t *after, const uint8_t *grants)
+{
+    struct places places;
+    find_places(plan, &places);
+    see_answers(setting, plan, &places, before, 1, grants);
+    if (setting == METTULOS_OFF) see_idle(plan, &places, before, after, grants);
+}
+
+/* Answers with the setting on for which hosts were passed in vain: those where somebody has the slot then, by the number of cores and by the depth at which it
+ * went on beside a host; those where it is idle; and all by the most hosts of one parent (three or more in one), the most one below the other, and reasons. */
+static uint64_t gained_cores[9], gained_depth[9], idle_in_vain, passed_siblings[4], passed_levels[9], passed_reasons[REASONS];
+/* The calls with such a grant, by that depth. */
+static uint64_t gaining[9];
+
+void seen_passed(const uint32_t *plan, const struct passed *passed)
+{
+    gained_cores[plan[2]] += passed->depths != 0;
+    idle_in_vain += passed->depths == 0;
+    for (uint32_t depth = 1; depth <= 8; depth++) gained_depth[depth] += passed->depths >> depth & 1;
+    passed_siblings[passed->siblings < 3 ? passed->siblings : 3]++;
+    passed_levels[passed->levels]++;
+    for (uint32_t reason = 0; reason < REASONS; reason++) passed_reasons[reason] += passed->reasons >> reason & 1;
+}
+
+void seen_gaining(uint32_t depths)
+{
+    for (uint32_t depth = 1; depth <= 8; depth++) gaining[depth] += depths >> depth & 1;
+}
+
 /* By the kind of the leaf; in the second row those of odd periods, and those below hosts of odd periods. The leaves are counted once for each run, since the
  * windows of one leaf are much alike. */
 static uint64_t windows_held[2][2], leaves_held[2][2], leaves_just[2][2];
+/* By the settings. */
+static uint64_t windows_in[COURSES], leaves_in[COURSES], leaves_just_in[COURSES];
 
-void seen_windows(const uint32_t *plan, uint32_t leaf, uint64_t windows, uint64_t just)
+void seen_windows(const uint32_t *plan, uint32_t leaf, enum course course, uint64_t windows, uint64_t just)
 {
     struct places places;
     find_places(plan, &places);
@@ -330,6 +358,9 @@ void seen_windows(const uint32_t *plan, uint32_t leaf, uint64_t windows, uint64_
     windows_held[odd][kind] += windows;
     leaves_held[odd][kind] += windows > 0;
     leaves_just[odd][kind] += just > 0;
+    windows_in[course] += windows;
+    leaves_in[course] += windows > 0;
+    leaves_just_in[course] += just > 0;
 }
 
 /* ---- the report */
@@ -384,12 +415,30 @@ static void report_idle(void)
 {
     print_row("idle answers by core", idle_core, 0, 7);
     print_row("answers of no supply by core", missing_core, 0, 7);
-    print_row("idle answers of steps by the depth of the last host charged (0: none)", idle_below, 0, 8);
-    printf("idle answers of steps below a host without children: %" PRIu64 "\n", idle_without_children);
+    print_row("idle answers of steps with the setting off by the depth of the last host charged (0: none)", idle_below, 0, 8);
+    printf("idle answers of steps with the setting off below a host without children: %" PRIu64 "\n", idle_without_children);
     want_row("an idle answer of core", idle_core, 0, 7, ENOUGH);
     want_row("an answer of no supply of core", missing_core, 0, 7, ENOUGH);
     want_row("an idle step whose last charged host has depth", idle_below, 0, 8, ENOUGH);
     want("an idle step below a host without children", "", idle_without_children, ENOUGH);
+}
+
+static void report_passed(void)
+{
+    print_row("grants after hosts passed in vain by cores", gained_cores, 1, 8);
+    print_row("grants after hosts passed in vain by the depth at which the choice went on", gained_depth, 1, 8);
+    print_row("calls with such grants by that depth", gaining, 1, 8);
+    printf("idle answers after hosts passed in vain: %" PRIu64 "\n", idle_in_vain);
+    print_row("answers with hosts passed in vain by how many of one parent (3: or more)", passed_siblings, 1, 3);
+    print_row("answers with hosts passed in vain by how many one below the other", passed_levels, 1, 8);
+    print_row("answers with hosts passed in vain: no children (0), nothing left (1), a leaf declines (2), a host in vain (3)", passed_reasons, 0, 3);
+    want_row("a grant after hosts passed in vain under cores", gained_cores, 1, 8, ENOUGH);
+    want_row("a grant after a host beside it was passed in vain at depth", gained_depth, 1, 8, ENOUGH);
+    want_row("a call with such a grant at depth", gaining, 1, 8, ENOUGH_OF_A_PART);
+    want("an idle answer after hosts passed in vain", "", idle_in_vain, ENOUGH);
+    want_row("an answer with hosts of one parent passed in vain, so many:", passed_siblings, 1, 3, ENOUGH);
+    want_row("an answer with hosts one below the other passed in vain, so many:", passed_levels, 1, 8, ENOUGH);
+    want_row("an answer with a host passed in vain for this reason:", passed_reasons, 0, 3, ENOUGH);
 }
 
 static void report_windows(void)
@@ -407,6 +456,12 @@ static void report_windows(void)
         print_row(what, leaves_just[odd], 0, 1);
         want_row(what, leaves_just[odd], 0, 1, ENOUGH_OF_A_PART);
     }
+    print_row("windows by the settings of their slots (0 off, 1 on, 2 both)", windows_in, 0, 2);
+    print_row("leaves with such windows", leaves_in, 0, 2);
+    print_row("leaves with such windows that had just what is wanted", leaves_just_in, 0, 2);
+    want_row("windows held to what leaves want, by the settings (0 off, 1 on, 2 both):", windows_in, 0, 2, ENOUGH);
+    want_row("leaves with such windows, by the settings (0 off, 1 on, 2 both):", leaves_in, 0, 2, ENOUGH);
+    want_row("leaves with such windows that had just what is wanted, by the settings (0 off, 1 on, 2 both):", leaves_just_in, 0, 2, ENOUGH_OF_A_PART);
 }
 
 static void report_things(void)
@@ -419,8 +474,12 @@ static void report_things(void)
         "a host one slot short of whole, but served whole, with a child of an odd period, refused by 12",
         "a whole supply overfull by one, refused by 14",  "a whole host overfull by one, refused by 14",
         "a parent of no slots with a child of an odd period, refused by 12",
-        "a parent of no slots with a child that is served some, refused by 14"};
-    printf("slots: %" PRIu64 ", at 2^39 or later %" PRIu64 "; runs of %d slots or more: %" PRIu64 "\n", slots_given, slots_past_half, LONG_RUN, long_runs);
+        "a parent of no slots with a child that is served some, refused by 14",
+        "a call that goes on from one with the other setting",
+        "slots that are given out otherwise with the setting on than off", "slots of a plan with hosts that are given out alike with the setting on and off",
+        "a setting that is none where the plan value or the state is not fit, refused by 5", "a setting that is none where a length is wrong, refused by 17"};
+    printf("slots: %" PRIu64 " with the setting off, %" PRIu64 " with it on, at 2^39 or later %" PRIu64 "; runs of %d slots or more: %" PRIu64 "\n",
+           slots_given[0], slots_given[1], slots_past_half, LONG_RUN, long_runs);
     printf("runs and steps with counts past the last node: %" PRIu64 "\n", odd_counts_kept);
     want("a slot at 2^39 or later", "", slots_past_half, ENOUGH);
     want("a run of 1,000 slots or more", "", long_runs, ENOUGH_OF_A_PART);
@@ -439,6 +498,7 @@ int seen_report(uint64_t rounds)
     report_plans();
     report_grants();
     report_idle();
+    report_passed();
     report_windows();
     report_things();
     want_calls();

@@ -2,8 +2,7 @@
 #ifndef COMPARE_SEEN_H
 #define COMPARE_SEEN_H
 
-#include <stddef.h>
-#include <stdint.h>
+#include "inputs.h"
 
 enum call { DECIDE, READ, NAME, FRESH, STEP, RUN, START, MINUTE, SLOT, CALLS };
 
@@ -25,12 +24,28 @@ void seen_null(enum call call, int slice, const char *name);
 /* A plan value that was accepted. */
 void seen_plan(const uint32_t *plan);
 
-/* A step and a run that were not refused: the states before and after, the answers. */
-void seen_step(const uint32_t *plan, const uint64_t *before, const uint64_t *after, const uint8_t *grants);
-void seen_run(const uint32_t *plan, const uint64_t *before, size_t slots, const uint8_t *out);
+/* A step and a run that were not refused: the setting, the states before and after, the answers. */
+void seen_step(uint8_t setting, const uint32_t *plan, const uint64_t *before, const uint64_t *after, const uint8_t *grants);
+void seen_run(uint8_t setting, const uint32_t *plan, const uint64_t *before, size_t slots, const uint8_t *out);
 
-/* A leaf, among the slots that were given out from a fresh start: how many of its windows were held to what it wants, and how many of them had just that. */
-void seen_windows(const uint32_t *plan, uint32_t leaf, uint64_t windows, uint64_t just);
+/* Why a host with slots left was passed in vain: it has no children; none of them has slots left; the first that has is a leaf, which declines, or a host,
+ * which was passed in vain itself. */
+enum reason { WITHOUT_CHILDREN, NOTHING_LEFT, LEAF_DECLINES, HOST_IN_VAIN, REASONS };
+
+/* The hosts that were passed in vain for one core in a slot with the setting on. */
+struct passed {
+    uint32_t siblings; /* the most of one parent */
+    uint32_t levels;   /* the most one below the other */
+    uint32_t depths;   /* bit d where a node of depth d has the slot and was looked at after a host beside it; 0 where the slot is idle */
+    uint32_t reasons;  /* as bits */
+};
+void seen_passed(const uint32_t *plan, const struct passed *passed);
+/* And in all slots of a call together: the depths. */
+void seen_gaining(uint32_t depths);
+
+/* A leaf, among the slots that were given out from a fresh start with such settings: how many of its windows were held to what it wants, and how many of them
+ * had just that. */
+void seen_windows(const uint32_t *plan, uint32_t leaf, enum course course, uint64_t windows, uint64_t just);
 
 /* A plan that one of the rules 11 to 14 refused at a node of this depth. */
 void seen_broken(uint32_t rule, uint32_t depth);
@@ -49,6 +64,11 @@ enum thing {
     HOST_OVERFULL,         /* and a whole host */
     EMPTY_AND_ODD,         /* a parent of (0,T) whose child has an odd period, refused by 12 */
     EMPTY_AND_SERVING,     /* and one whose child is served something, refused by 14 */
+    SETTING_AFTER_OTHER,   /* a call that goes on from one with the other setting */
+    SETTINGS_DIFFER,       /* slots that were given out twice, with the setting off and on, and not to the same */
+    SETTINGS_AGREE,        /* and to the same, hosts among the nodes */
+    BAD_SETTING_FIRST,     /* a setting that is none, refused by 5 where the plan value or the state is not fit either */
+    BAD_SETTING_LAST,      /* and refused by 17 where a length is wrong too */
     THINGS
 };
 void seen(enum thing thing);

@@ -61,27 +61,34 @@ static void time_row(const struct row *row)
 
 /* ---- stack */
 
-static void stack_row(const char *name, repeat *one, struct shape shape)
+static void stack_row(const char *name, repeat *one, uint8_t setting, struct shape shape)
 {
     static struct job job;
-    job_of_plan(&job, shape, MOST_SLOTS);
+    job_of_plan(&job, shape, setting, MOST_SLOTS);
     printf("| %s | %zu | %zu |\n", name, stack_of(one, &library, &job), stack_of(one, &fast, &job));
 }
 
 int main(void)
 {
-    static const struct shape small = {1, 1, 1, PLAIN}, deep = {64, 8, 8, PLAIN}, deepest = {64, 8, 8, HOSTS_ALONE}, wide = {64, 8, 1, PLAIN};
+    static const struct shape small = {1, 1, 1, PLAIN}, deep = {64, 8, 8, PLAIN}, hosts = {64, 8, 8, HOSTS_ALONE}, wide = {64, 8, 1, PLAIN};
+    static const struct shape in_vain = {64, 8, 8, IN_VAIN};
     for (size_t i = 0; i < row_count; i++) row_agree(&rows[i]);
     printf("| Call | fast, ns | library, times that | least to largest | model, times that |\n|---|---:|---:|---:|---:|\n");
     for (size_t i = 0; i < row_count; i++) time_row(&rows[i]);
     printf("\n| Call | library, bytes of stack | fast, bytes of stack |\n|---|---:|---:|\n");
-    stack_row("step, 1 node, 1 core", repeat_step, small);
-    stack_row("step, 64 nodes, 8 cores, depth 8", repeat_step, deep);
-    stack_row("step, 64 nodes, 8 cores, depth 8, all hosts", repeat_step, deepest);
-    stack_row("run, 1 node, 1 core", repeat_run, small);
-    stack_row("run, 64 nodes, 8 cores, depth 8", repeat_run, deep);
-    stack_row("run, 64 nodes, 8 cores, depth 8, all hosts", repeat_run, deepest);
-    stack_row("fresh, 64 nodes", repeat_fresh, wide);
-    stack_row("read, 64 nodes", repeat_read, wide);
+    stack_row("step, 1 node, 1 core", repeat_step, METTULOS_OFF, small);
+    stack_row("step, 64 nodes, 8 cores, depth 8", repeat_step, METTULOS_OFF, deep);
+    stack_row("step, 64 nodes, 8 cores, depth 8, all hosts", repeat_step, METTULOS_OFF, hosts);
+    stack_row("step, 64 nodes, 8 cores, depth 8, on", repeat_step, METTULOS_ON, deep);
+    stack_row("step, 64 nodes, 8 cores, depth 8, all hosts, on", repeat_step, METTULOS_ON, hosts);
+    stack_row("step, 64 nodes, 8 cores, depth 8, on, all hosts in vain", repeat_step, METTULOS_ON, in_vain);
+    stack_row("run, 1 node, 1 core", repeat_run, METTULOS_OFF, small);
+    stack_row("run, 64 nodes, 8 cores, depth 8", repeat_run, METTULOS_OFF, deep);
+    stack_row("run, 64 nodes, 8 cores, depth 8, all hosts", repeat_run, METTULOS_OFF, hosts);
+    stack_row("run, 64 nodes, 8 cores, depth 8, on", repeat_run, METTULOS_ON, deep);
+    stack_row("run, 64 nodes, 8 cores, depth 8, all hosts, on", repeat_run, METTULOS_ON, hosts);
+    stack_row("run, 64 nodes, 8 cores, depth 8, on, all hosts in vain", repeat_run, METTULOS_ON, in_vain);
+    stack_row("fresh, 64 nodes", repeat_fresh, METTULOS_OFF, wide);
+    stack_row("read, 64 nodes", repeat_read, METTULOS_OFF, wide);
     return 0;
 }

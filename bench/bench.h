@@ -10,8 +10,8 @@ struct calls {
     uint64_t (*decide)(uint8_t, uint16_t, uint16_t, uint8_t, uint16_t, uint16_t, uint8_t *, size_t, uint32_t *, size_t);
     uint64_t (*read)(const uint8_t *, size_t, uint32_t *, size_t);
     uint64_t (*fresh)(const uint32_t *, size_t, uint64_t *, size_t);
-    uint64_t (*step)(const uint32_t *, size_t, uint64_t *, size_t, uint8_t, uint64_t, uint8_t *, size_t);
-    uint64_t (*run)(const uint32_t *, size_t, uint64_t *, size_t, const uint8_t *, size_t, const uint64_t *, size_t, uint8_t *, size_t);
+    uint64_t (*step)(uint8_t, const uint32_t *, size_t, uint64_t *, size_t, uint8_t, uint64_t, uint8_t *, size_t);
+    uint64_t (*run)(uint8_t, const uint32_t *, size_t, uint64_t *, size_t, const uint8_t *, size_t, const uint64_t *, size_t, uint8_t *, size_t);
 };
 
 extern const struct calls library, fast, model;
@@ -23,10 +23,14 @@ struct pair {
     uint16_t wanted_c, wanted_t;
 };
 
+/* What a plan has beside its shape: names as long as can be and alike but for their last byte; hosts in the leaves' places; a leaf beside the hosts of each
+ * core, all of whose leaves decline in every slot, so that with the setting on every slot comes back from them to that leaf. */
+enum special { PLAIN, NAMES_ALIKE, HOSTS_ALONE, IN_VAIN };
+
 /* A plan with so many nodes, spread over so many cores, each leaf at this depth. */
 struct shape {
     uint8_t nodes, cores, depth;
-    enum { PLAIN, NAMES_ALIKE, HOSTS_ALONE } special; /* with names as long as can be and alike but for their last byte; with hosts in the leaves' places */
+    enum special special;
 };
 
 enum { MOST_SLOTS = 1000, MOST_OUT = 12282 };
@@ -38,6 +42,7 @@ struct job {
     size_t len;
     uint32_t plan[METTULOS_PLAN];
     uint64_t state[METTULOS_STATE];
+    uint8_t setting;
     uint8_t supplies[MOST_SLOTS];
     uint64_t declines[MOST_SLOTS];
     size_t slots;     /* of a run */
@@ -50,7 +55,7 @@ struct job {
 
 /* jobs.c: a job on a pair, and one on a plan, which must be one that the model takes. */
 void job_of_pair(struct job *job, struct pair pair, size_t room);
-void job_of_plan(struct job *job, struct shape shape, size_t slots);
+void job_of_plan(struct job *job, struct shape shape, uint8_t setting, size_t slots);
 
 /* jobs.c: one call, so many times over. Steps and runs go on from the state that the one before left. */
 typedef void repeat(const struct calls *calls, struct job *job, uint64_t times);
@@ -64,6 +69,7 @@ struct row {
     size_t room;        /* with so many bytes for an allocation, */
     uint32_t answer[2]; /* whose first numbers are to be these */
     struct shape shape; /* of the plan of any other call */
+    uint8_t setting;    /* of a step and a run */
     size_t slots;       /* of a run */
 };
 

@@ -63,6 +63,20 @@ static void draft_deep(struct draft *draft, struct shape shape)
     }
 }
 
+/* On each core such a chain, which has one slot of 64, and a leaf beside it, which has the others; a node left over is such a leaf, on the last core. */
+static void draft_in_vain(struct draft *draft, struct shape shape)
+{
+    static const struct drafted_type one = {1, 64}, others = {63, 64};
+    uint32_t of_core = shape.depth + 1u;
+    for (uint32_t i = 0; i < shape.nodes; i++) {
+        uint32_t core = i / of_core, level = i % of_core;
+        uint8_t parent = (uint8_t)(level == 0 ? core : FIRST_NODE_BYTE + i - 1);
+        if (level == shape.depth || (core + 1) * of_core > shape.nodes) draft->nodes[i] = leaf((uint8_t)core, others, 0);
+        else if (level == shape.depth - 1u) draft->nodes[i] = leaf(parent, one, 0);
+        else draft->nodes[i] = (struct drafted_node){HOST, parent, one, one, 0, {0}};
+    }
+}
+
 static void name_nodes(struct draft *draft, int alike)
 {
     for (uint32_t i = 0; i < draft->node_count; i++) {
@@ -85,7 +99,22 @@ void job_of_pair(struct job *job, struct pair pair, size_t room)
     job->room = room;
 }
 
-void job_of_plan(struct job *job, struct shape shape, size_t slots)
+/* By chance, but that where it is to be in vain all leaves below hosts decline, and nobody else. */
+static void give_inputs(struct job *job, enum special special)
+{
+    uint64_t below = 0;
+    for (uint32_t i = 0; i < job->plan[METTULOS_PLAN_NODES]; i++) {
+        const uint32_t *node = mettulos_node(job->plan, i);
+        below |= (uint64_t)(node[METTULOS_NODE_KIND] != HOST && node[METTULOS_NODE_PARENT] >= FIRST_NODE_BYTE) << i;
+    }
+    chance_seed(1);
+    for (size_t k = 0; k < MOST_SLOTS; k++) {
+        job->supplies[k] = (uint8_t)(chance_bits() | chance_bits());
+        job->declines[k] = special == IN_VAIN ? below : chance_bits() & chance_bits();
+    }
+}
+
+void job_of_plan(struct job *job, struct shape shape, uint8_t setting, size_t slots)
 {
     struct draft draft;
     memset(job, 0, sizeof *job);
@@ -95,7 +124,8 @@ void job_of_plan(struct job *job, struct shape shape, size_t slots)
     draft.supply_count = shape.cores;
     draft.node_count = shape.nodes;
     for (uint32_t i = 0; i < shape.cores; i++) draft.supplies[i] = (struct drafted_type){1, 1};
-    if (shape.depth == 1) draft_flat(&draft, shape);
+    if (shape.special == IN_VAIN) draft_in_vain(&draft, shape);
+    else if (shape.depth == 1) draft_flat(&draft, shape);
     else draft_deep(&draft, shape);
     name_nodes(&draft, shape.special == NAMES_ALIKE);
     job->len = draft_bytes(&draft, job->bytes);
@@ -103,11 +133,8 @@ void job_of_plan(struct job *job, struct shape shape, size_t slots)
         printf("a plan to be timed is refused\n");
         exit(1);
     }
-    chance_seed(1);
-    for (size_t k = 0; k < MOST_SLOTS; k++) {
-        job->supplies[k] = (uint8_t)(chance_bits() | chance_bits());
-        job->declines[k] = chance_bits() & chance_bits();
-    }
+    give_inputs(job, shape.special);
+    job->setting = setting;
     job->slots = slots;
     job->room = slots * shape.cores;
 }
@@ -136,7 +163,7 @@ void repeat_step(const struct calls *calls, struct job *job, uint64_t times)
 {
     for (uint64_t i = 0; i < times; i++) {
         size_t k = job->next_slot;
-        job->answered += calls->step(job->plan, METTULOS_PLAN, job->state, METTULOS_STATE, job->supplies[k], job->declines[k], job->grants, 8);
+        job->answered += calls->step(job->setting, job->plan, METTULOS_PLAN, job->state, METTULOS_STATE, job->supplies[k], job->declines[k], job->grants, 8);
         job->next_slot = k + 1 < MOST_SLOTS ? k + 1 : 0;
     }
 }
@@ -144,7 +171,7 @@ void repeat_step(const struct calls *calls, struct job *job, uint64_t times)
 void repeat_run(const struct calls *calls, struct job *job, uint64_t times)
 {
     for (uint64_t i = 0; i < times; i++) {
-        job->answered += calls->run(job->plan, METTULOS_PLAN, job->state, METTULOS_STATE, job->supplies, job->slots, job->declines, job->slots, job->out,
-                                    job->room);
+        job->answered += calls->run(job->setting, job->plan, METTULOS_PLAN, job->state, METTULOS_STATE, job->supplies, job->slots, job->declines, job->slots,
+                                    job->out, job->room);
     }
 }

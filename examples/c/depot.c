@@ -1,11 +1,13 @@
-/* A depot's night in C: reads a plan file and gives out its first eight slots, all cores supplied and nobody declining.
+/* A depot's night in C: reads a plan file and gives out its first eight slots, all cores supplied and nobody declining, with the setting off. Then it shows who
+ * gains by the setting on.
  *
  *   depot FILE     prints a line for each slot: its number, its start in microseconds, and for each supply the name of the leaf that has the slot, or - where
- *                  it is idle. A refused plan prints its refusal: number, place and words. Ends with 0, with 1 where the plan is refused, and with 2 where
- *                  the file cannot be read. */
+ *                  it is idle. Then two lines for the first of them that the setting on gives to somebody else, if there is one. A refused plan prints its
+ *                  refusal: number, place and words. Ends with 0, with 1 where the plan is refused, and with 2 where the file cannot be read. */
 #include "../../include/mettulos.h"
 
 #include <stdio.h>
+#include <string.h>
 
 enum { SLOTS = 8 };
 
@@ -56,12 +58,50 @@ static void print_grant(uint8_t grant)
     else printf(" %.*s", (int)names[grant][METTULOS_NAME_LENGTH], (const char *)bytes + names[grant][METTULOS_NAME_FIRST]);
 }
 
-int main(int argc, char **argv)
+/* Answers the refusal of the start, if there is one, and prints nothing then. */
+static uint64_t print_slot(const char *before, size_t n, const uint8_t *grants)
+{
+    uint64_t start, refusal = mettulos_start(plan[METTULOS_PLAN_P], plan[METTULOS_PLAN_Q], n, &start, METTULOS_TIME);
+    if (refusal) return refusal;
+    printf("%sslot %u %llu", before, (unsigned)n, (unsigned long long)start);
+    for (size_t s = 0; s < plan[METTULOS_PLAN_SUPPLIES]; s++) print_grant(grants[s]);
+    printf("\n");
+    return METTULOS_DONE;
+}
+
+/* The slots by one run, with the setting off. Its answers stand slot by slot, one for each supply. */
+static uint64_t print_slots(void)
 {
     static const uint8_t supplies[SLOTS] = {255, 255, 255, 255, 255, 255, 255, 255};
     static const uint64_t declines[SLOTS];
     uint8_t grants[SLOTS * METTULOS_MOST_SUPPLIES];
-    uint64_t refusal, start;
+    uint64_t refusal = mettulos_fresh(plan, METTULOS_PLAN, state, METTULOS_STATE);
+    if (refusal) return refusal;
+    refusal = mettulos_run(METTULOS_OFF, plan, METTULOS_PLAN, state, METTULOS_STATE, supplies, SLOTS, declines, SLOTS, grants, sizeof grants);
+    for (size_t n = 0; n < SLOTS && !refusal; n++) refusal = print_slot("", n, grants + n * plan[METTULOS_PLAN_SUPPLIES]);
+    return refusal;
+}
+
+/* The same slots by steps, each with both settings from the same state, up to the first at which they differ: there a sibling gains a slot that nobody under a
+ * host takes. */
+static uint64_t print_gain(void)
+{
+    uint64_t state_on[METTULOS_STATE], refusal = mettulos_fresh(plan, METTULOS_PLAN, state, METTULOS_STATE);
+    uint8_t off[METTULOS_GRANTS], on[METTULOS_GRANTS];
+    for (size_t n = 0; n < SLOTS && !refusal; n++) {
+        memcpy(state_on, state, sizeof state_on);
+        if ((refusal = mettulos_step(METTULOS_OFF, plan, METTULOS_PLAN, state, METTULOS_STATE, 255, 0, off, METTULOS_GRANTS))) return refusal;
+        if ((refusal = mettulos_step(METTULOS_ON, plan, METTULOS_PLAN, state_on, METTULOS_STATE, 255, 0, on, METTULOS_GRANTS))) return refusal;
+        if (memcmp(off, on, METTULOS_GRANTS) == 0) continue;
+        if ((refusal = print_slot("off: ", n, off))) return refusal;
+        return print_slot("on: ", n, on);
+    }
+    return refusal;
+}
+
+int main(int argc, char **argv)
+{
+    uint64_t refusal;
 
     if (argc != 2) {
         fprintf(stderr, "usage: depot FILE\n");
@@ -70,17 +110,7 @@ int main(int argc, char **argv)
     if (!read_file(argv[1])) return 2;
     if ((refusal = mettulos_read(bytes, len, plan, METTULOS_PLAN))) return refused(refusal);
     if ((refusal = find_names())) return refused(refusal);
-    if ((refusal = mettulos_fresh(plan, METTULOS_PLAN, state, METTULOS_STATE))) return refused(refusal);
-    refusal = mettulos_run(plan, METTULOS_PLAN, state, METTULOS_STATE, supplies, SLOTS, declines, SLOTS, grants, sizeof grants);
-    if (refusal) return refused(refusal);
-
-    /* the answers stand slot by slot, one for each supply */
-    size_t cores = plan[METTULOS_PLAN_SUPPLIES];
-    for (size_t n = 0; n < SLOTS; n++) {
-        if ((refusal = mettulos_start(plan[METTULOS_PLAN_P], plan[METTULOS_PLAN_Q], n, &start, METTULOS_TIME))) return refused(refusal);
-        printf("slot %u %llu", (unsigned)n, (unsigned long long)start);
-        for (size_t s = 0; s < cores; s++) print_grant(grants[n * cores + s]);
-        printf("\n");
-    }
+    if ((refusal = print_slots())) return refused(refusal);
+    if ((refusal = print_gain())) return refused(refusal);
     return 0;
 }

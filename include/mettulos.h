@@ -32,7 +32,8 @@
  *
  * What a call costs: every name reads and checks the whole plan anew, as a read does, so keep what it answers. Every fresh start, step and run checks the whole
  * plan value anew. For all but the smallest plans that is most of a step, and a run does it once for all its slots: give out many slots by one run where
- * their supplies and declines are known. A decision that holds takes no search; one that fails tries starts one by one, at most 4,096 of them. */
+ * their supplies and declines are known. With the setting on, each slot looks at all nodes once more. A decision that holds takes no search; one that fails
+ * tries starts one by one, at most 4,096 of them. */
 #ifndef METTULOS_H
 #define METTULOS_H
 

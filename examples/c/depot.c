@@ -1,13 +1,12 @@
-/* A depot's night in C: reads a plan file and gives out its first eight slots, all cores supplied and nobody declining, with the setting off. Then it shows who
- * gains by the setting on.
+/* A depot's night in C: reads a plan file and gives out its first eight slots, all cores supplied and nobody declining, with the setting off; then slot 0 alone
+ * with the setting off and on, as it is where every leaf below a host declines.
  *
  *   depot FILE     prints a line for each slot: its number, its start in microseconds, and for each supply the name of the leaf that has the slot, or - where
- *                  it is idle. Then two lines for the first of them that the setting on gives to somebody else, if there is one. A refused plan prints its
- *                  refusal: number, place and words. Ends with 0, with 1 where the plan is refused, and with 2 where the file cannot be read. */
+ *                  it is idle. A refused plan prints its refusal: number, place and words. Ends with 0, with 1 where the plan is refused, and with 2 where
+ *                  the file cannot be read. */
 #include "../../include/mettulos.h"
 
 #include <stdio.h>
-#include <string.h>
 
 enum { SLOTS = 8 };
 
@@ -82,21 +81,18 @@ static uint64_t print_slots(void)
     return refusal;
 }
 
-/* The same slots by steps, each with both settings from the same state, up to the first at which they differ: there a sibling gains a slot that nobody under a
- * host takes. */
-static uint64_t print_gain(void)
+/* Slot 0 by a step, in which every leaf below a host declines; the bits of hosts are ignored. With the setting off a host that is looked at first is charged in
+ * vain; with it on the slot goes on to a sibling. */
+static uint64_t print_first_slot(const char *before, uint8_t setting)
 {
-    uint64_t state_on[METTULOS_STATE], refusal = mettulos_fresh(plan, METTULOS_PLAN, state, METTULOS_STATE);
-    uint8_t off[METTULOS_GRANTS], on[METTULOS_GRANTS];
-    for (size_t n = 0; n < SLOTS && !refusal; n++) {
-        memcpy(state_on, state, sizeof state_on);
-        if ((refusal = mettulos_step(METTULOS_OFF, plan, METTULOS_PLAN, state, METTULOS_STATE, 255, 0, off, METTULOS_GRANTS))) return refusal;
-        if ((refusal = mettulos_step(METTULOS_ON, plan, METTULOS_PLAN, state_on, METTULOS_STATE, 255, 0, on, METTULOS_GRANTS))) return refusal;
-        if (memcmp(off, on, METTULOS_GRANTS) == 0) continue;
-        if ((refusal = print_slot("off: ", n, off))) return refusal;
-        return print_slot("on: ", n, on);
+    uint8_t grants[METTULOS_GRANTS];
+    uint64_t declines = 0, refusal = mettulos_fresh(plan, METTULOS_PLAN, state, METTULOS_STATE);
+    if (refusal) return refusal;
+    for (size_t i = 0; i < plan[METTULOS_PLAN_NODES]; i++) {
+        if (mettulos_node(plan, i)[METTULOS_NODE_PARENT] >= METTULOS_PARENT_NODE) declines |= (uint64_t)1 << i;
     }
-    return refusal;
+    refusal = mettulos_step(setting, plan, METTULOS_PLAN, state, METTULOS_STATE, 255, declines, grants, METTULOS_GRANTS);
+    return refusal ? refusal : print_slot(before, 0, grants);
 }
 
 int main(int argc, char **argv)
@@ -111,6 +107,7 @@ int main(int argc, char **argv)
     if ((refusal = mettulos_read(bytes, len, plan, METTULOS_PLAN))) return refused(refusal);
     if ((refusal = find_names())) return refused(refusal);
     if ((refusal = print_slots())) return refused(refusal);
-    if ((refusal = print_gain())) return refused(refusal);
+    if ((refusal = print_first_slot("off: ", METTULOS_OFF))) return refused(refusal);
+    if ((refusal = print_first_slot("on: ", METTULOS_ON))) return refused(refusal);
     return 0;
 }

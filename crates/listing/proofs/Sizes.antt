@@ -25,8 +25,11 @@ use Rattle.dispatch.proofs.Choices.{choice-below}
 use Rattle.dispatch.proofs.SlotsFresh.{replicate-everywhere}
 use Rattle.dispatch.specs.View.{View, bitOf, viewOf}
 use Rattle.dispatch.specs.Choice.{Pick, nobody, just, choose}
-use Rattle.dispatch.specs.Slot.{SlotEnd, charge, refilled, follow, walk, granting, serveCore, serveTo, slot}
-use Rattle.dispatch.specs.Run.{started, courseTo, course}
+use Rattle.dispatch.specs.Passed.{passedOver}
+use Rattle.dispatch.specs.Slot.{SlotEnd, charge, refilled, follow, walk, granting, serveCore, serveTo, slotStart, slot}
+use Rattle.dispatch.specs.Run.{started, courseTo, courseBy, course}
+use Rattle.dispatch.specs.declared.Setting.{Setting}
+use Rattle.dispatch.specs.declared.Setting.the-variants.{Off}
 use Rattle.listing.proofs.SlotLines.{begins-most}
 use Rattle.layout.specs.Layout.{lays}
 use Rattle.listing.specs.Text.{digits, decimal, above, depthTo, depthOf, leastOf, nodeLine}
@@ -116,61 +119,63 @@ unsupplied-brief : Brief 255
 unfolding answerText
 unsupplied-brief = omega arith
 
-module _ (v : View) (few : v .size ≤ 64) (declines : ℕ) where
+module _ (v : View) (few : v .size ≤ 64) (passed : ℕ → Bool) where
   -- whatever a walk ends at,
-  walk-brief : (levels : ℕ) (x : Parent) (left : List ℕ) → Brief (walk v declines levels x left .grant)
+  walk-brief : (levels : ℕ) (x : Parent) (left : List ℕ) → Brief (walk v passed levels x left .grant)
   unfolding walk follow
   walk-brief zero x left = idle-brief
-  walk-brief (suc levels) x left = go (choose v left declines x) refl (walk-brief levels)
+  walk-brief (suc levels) x left = go (choose v left passed x) refl (walk-brief levels)
     where
-      onward : (i : ℕ) (b : Bool) → i < 64 → ((x : Parent) (left : List ℕ) → Brief (walk v declines levels x left .grant)) →
-          Brief (cond b (record { grant = i; left = charge left i }) (walk v declines levels (Under i) (charge left i)) .grant)
+      onward : (i : ℕ) (b : Bool) → i < 64 → ((x : Parent) (left : List ℕ) → Brief (walk v passed levels x left .grant)) →
+          Brief (cond b (record { grant = i; left = charge left i }) (walk v passed levels (Under i) (charge left i)) .grant)
       onward i true l before = leaf-brief i l
       onward i false l before = before (Under i) (charge left i)
 
-      go : (w : Pick) → choose v left declines x ≡ w → ((x : Parent) (left : List ℕ) → Brief (walk v declines levels x left .grant)) →
-          Brief (follow v (walk v declines levels) left w .grant)
+      go : (w : Pick) → choose v left passed x ≡ w → ((x : Parent) (left : List ℕ) → Brief (walk v passed levels x left .grant)) →
+          Brief (follow v (walk v passed levels) left w .grant)
       go nobody e before = idle-brief
-      go (just i) e before = onward i (v .leaf i) (omega (arith, choice-below v left declines x i e)) before
+      go (just i) e before = onward i (v .leaf i) (omega (arith, choice-below v left passed x i e)) before
 
   -- so each answer of a slot,
   serve-brief : (supplied : ℕ) (so : SlotEnd) → Each Brief 255 unsupplied-brief (so .grants) → (k : ℕ) →
-      Each Brief 255 unsupplied-brief (serveTo v supplied declines so k .grants)
+      Each Brief 255 unsupplied-brief (serveTo v supplied passed so k .grants)
   unfolding serveTo serveCore granting
   serve-brief supplied so h zero = h
   serve-brief supplied so h (suc k) = go (bitOf supplied k) (serve-brief supplied so h k)
     where
       before : SlotEnd
-      before = serveTo v supplied declines so k
+      before = serveTo v supplied passed so k
 
       go : (b : Bool) → Each Brief 255 unsupplied-brief (before .grants) →
-          Each Brief 255 unsupplied-brief (cond b (granting before k (walk v declines 8 (Supply k) (before .left))) before .grants)
+          Each Brief 255 unsupplied-brief (cond b (granting before k (walk v passed 8 (Supply k) (before .left))) before .grants)
       go true h = each-set Brief 255 unsupplied-brief (before .grants) k _ h (walk-brief 8 (Supply k) (before .left))
       go false h = h
 
-  slot-brief : (cores n supplied : ℕ) (left : List ℕ) → Each Brief 255 unsupplied-brief (slot v cores n supplied declines left .grants)
-  unfolding slot
-  slot-brief cores n supplied left =
-      let start : SlotEnd = record { grants = replicate 8 255; left = refilled v n left } in
-      serve-brief supplied start (λ k. rw (replicate-everywhere 8 k 255) unsupplied-brief) cores
+slot-brief : (setting : Setting) (v : View) → v .size ≤ 64 → (cores n supplied declines : ℕ) (left : List ℕ) →
+    Each Brief 255 unsupplied-brief (slot setting v cores n supplied declines left .grants)
+unfolding slot
+slot-brief setting v few cores n supplied declines left =
+    let full = refilled v n left in
+    serve-brief v few (passedOver setting v full declines) supplied (slotStart full) (λ k. rw (replicate-everywhere 8 k 255) unsupplied-brief) cores
 
 -- and of a run
-course-brief : (v : View) → v .size ≤ 64 → (cores n : ℕ) (supplies declines left : List ℕ) (i : ℕ) →
-    Each Brief 255 unsupplied-brief (courseTo v cores n supplies declines left i .answers)
+course-brief : (v : View) → v .size ≤ 64 → (cores n : ℕ) (settings : List Setting) (supplies declines left : List ℕ) (i : ℕ) →
+    Each Brief 255 unsupplied-brief (courseTo v cores n settings supplies declines left i .answers)
 unfolding courseTo
-course-brief v few cores n supplies declines left zero = λ k. unsupplied-brief
-course-brief v few cores n supplies declines left (suc i) =
-    let so = courseTo v cores n supplies declines left i in
-    let grants = slot v cores (n + i) (getD supplies i 0) (getD declines i 0) (so .left) .grants in
-    each-append Brief 255 unsupplied-brief (so .answers) (take cores grants) (course-brief v few cores n supplies declines left i)
-    (each-take Brief 255 unsupplied-brief cores grants (slot-brief v few (getD declines i 0) cores (n + i) (getD supplies i 0) (so .left)))
+course-brief v few cores n settings supplies declines left zero = λ k. unsupplied-brief
+course-brief v few cores n settings supplies declines left (suc i) =
+    let so = courseTo v cores n settings supplies declines left i in
+    let grants = slot (getD settings i Off) v cores (n + i) (getD supplies i 0) (getD declines i 0) (so .left) .grants in
+    each-append Brief 255 unsupplied-brief (so .answers) (take cores grants) (course-brief v few cores n settings supplies declines left i)
+    (each-take Brief 255 unsupplied-brief cores grants
+    (slot-brief (getD settings i Off) v few cores (n + i) (getD supplies i 0) (getD declines i 0) (so .left)))
 
 -- so each answer that is printed is
 pub first-eight-brief : (plan : Plan) → plan .size ≤ 64 → (k : ℕ) → length (answerText (getD (firstEight plan) k 255)) ≤ 2
-unfolding firstEight course
+unfolding firstEight course courseBy
 first-eight-brief plan few k =
     let state = started plan .state in
-    course-brief (viewOf plan) few (plan .cores) (state .clock) (replicate 8 255) (replicate 8 0) (state .left) 8 k
+    course-brief (viewOf plan) few (plan .cores) (state .clock) (replicate 8 Off) (replicate 8 255) (replicate 8 0) (state .left) 8 k
 
 -- what is laid is no longer than its parts together may be
 lays-most : (f : ℕ → List ℕ) (most : ℕ → ℕ) (n : ℕ) → ((i : ℕ) → i < n → length (f i) ≤ most i) → length (lays f n) ≤ sumTo most n

@@ -22,8 +22,9 @@ use Rattle.dispatch.proofs.Refusals.{fits-sound}
 use Rattle.dispatch.proofs.Running.{length-answers}
 use Rattle.dispatch.proofs.Ready.{fresh-ready}
 use Rattle.dispatch.specs.View.{viewOf}
-use Rattle.dispatch.specs.Run.{done, standing, runEnd, freshState, started, ready, roomy, inTime, outcome, course, outAfter}
+use Rattle.dispatch.specs.Run.{done, standing, runEnd, freshState, started, ready, roomy, inTime, outcome, courseBy, course, outAfter}
 use Rattle.dispatch.specs.declared.Ran.{Ran}
+use Rattle.dispatch.specs.declared.Setting.the-variants.{Off}
 use Rattle.listing.proofs.Pages.{put-then, lays-ext, room-first, room-then, room-byte}
 use Rattle.listing.specs.Page.{Put}
 use Rattle.layout.specs.Layout.{lays}
@@ -85,15 +86,15 @@ module _ (plan : Plan) (fitting : isFit plan ≡ true) where
 
   -- and the buffer has its answers in front
   pub slots-given : (f : Ran) → runEnd f ≡ started plan → (out after : List ℕ) → length out ≡ 64 →
-      after ≡ outAfter plan (standing (f .state)) (replicate 8 255) (replicate 8 0) out → after ≡ firstEight plan ++ drop (8 * plan .cores) out
+      after ≡ outAfter Off plan (standing (f .state)) (replicate 8 255) (replicate 8 0) out → after ≡ firstEight plan ++ drop (8 * plan .cores) out
   unfolding outAfter firstEight
   slots-given f e out after long h =
       (rw (ap (λ r. r .state) (e ∙ fresh-given), long, run-done) at h)
-      ∙ ap (λ r. course plan (r .state) (replicate 8 255) (replicate 8 0) .answers ++ drop (8 * plan .cores) out) (sym fresh-given)
+      ∙ ap (λ r. course Off plan (r .state) (replicate 8 255) (replicate 8 0) .answers ++ drop (8 * plan .cores) out) (sym fresh-given)
 
   length-of-first-eight : length (firstEight plan) ≡ 8 * plan .cores
-  unfolding firstEight course
-  length-of-first-eight = length-answers (viewOf plan) (plan .cores) _ _ _ _ [] (kept .eight-cores) 8
+  unfolding firstEight course courseBy
+  length-of-first-eight = length-answers (viewOf plan) (plan .cores) _ _ _ _ _ [] (kept .eight-cores) 8
 
   -- what stands behind the answers is not looked at
   module _ (grants rest : List ℕ) (e : grants ≡ firstEight plan ++ rest) where

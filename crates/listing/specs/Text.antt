@@ -17,6 +17,7 @@ use Rattle.reader.specs.Read.{readPlan, nameOf}
 use Rattle.layout.specs.Layout.{lays}
 use Rattle.dispatch.specs.Run.{started, course}
 use Rattle.dispatch.specs.Slot.{idle, unsupplied}
+use Rattle.dispatch.specs.declared.Setting.the-variants.{Off}
 use Rattle.listing.specs.declared.Listed.{Listed}
 use Rattle.listing.specs.declared.Listed.the-variants.{Written, Short}
 
@@ -59,9 +60,9 @@ nodeLine s plan i =
     decimal i ++ (space ++ (nameOf s i ++ (space ++ (decimal (depthOf plan i) ++ (space ++
     (decimal (servedOf plan i .c) ++ (slash ++ (decimal (servedOf plan i .t) ++ (space ++ (decimal (leastOf plan i) ++ newline))))))))))
 
--- 01: "all cores supplied and nobody declining": the answers of the first eight slots from a fresh start
+-- 01: "all cores supplied and nobody declining", and 02, request 12: "off, as `busplan` has it": the answers of the first eight slots from a fresh start
 unfoldable pub firstEight : Plan → List ℕ
-firstEight plan = course plan (started plan .state) (replicate 8 255) (replicate 8 0) .answers
+firstEight plan = course Off plan (started plan .state) (replicate 8 255) (replicate 8 0) .answers
 
 -- 01: "per supply the leaf, `-` idle or `x` not supplied"
 unfoldable pub answerText : ℕ → List ℕ

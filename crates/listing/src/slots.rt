@@ -11,6 +11,7 @@ ghost use Rattle.layout.specs.Layout.{lays};
 ghost use Rattle.listing.specs.Text.{firstEight, answerText, answerPart, slotLine};
 ghost use Rattle.listing.specs.Page.{Put};
 use crate::pieces;
+use dispatch::Setting;
 use plans::Plan;
 use ticks::Answer;
 use ticks::Tick;
@@ -25,13 +26,13 @@ pub fn put_slots(page: &mut [u8; 4096], at: usize, plan: Plan) -> usize
     put_lines(page, at, plan, grants)
 }
 
-// The answers of the first eight slots from a fresh start, slot by slot.
+// The answers of the first eight slots from a fresh start, slot by slot, with the switch off.
 fn give(plan: Plan, grants: &mut [u8; 64])
     requires { ⌜ isFit plan ≡ true ⌝ }
     ensures { λ r. ⌜ now (grants .exit) ≡ firstEight plan ++ drop (8 * plan .cores) (now (grants .entry)) ⌝ }
 {
     let fresh = dispatch::fresh(plan);
-    dispatch::run(plan, fresh.state, &[255; 8], &[0; 8], grants);
+    dispatch::run(Setting::Off, plan, fresh.state, &[255; 8], &[0; 8], grants);
 }
 
 fn put_lines(page: &mut [u8; 4096], at: usize, plan: Plan, grants: [u8; 64]) -> usize

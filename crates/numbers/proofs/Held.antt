@@ -16,6 +16,8 @@ use Rattle.plans.specs.declared.Plan.{Plan}
 use Rattle.decode.proofs.Entries.{length-filled, filled-at}
 use Rattle.dispatch.specs.View.{viewOf, servedC}
 use Rattle.dispatch.specs.Run.{zeroState, freshLeft, courseTo}
+use Rattle.dispatch.specs.declared.Setting.{Setting}
+use Rattle.dispatch.specs.declared.Setting.the-variants.{Off}
 use Rattle.dispatch.proofs.SlotsLengths.{length-slot}
 use Rattle.dispatch.proofs.SlotsFresh.{replicate-everywhere, length-fresh, fresh-count, fresh-past}
 use Rattle.dispatch.proofs.Ready.{each-course}
@@ -55,20 +57,21 @@ module _ (plan : Plan) (sound : Sound plan) where
       go i l (no past) = rw (fresh-past (viewOf plan) i (omega arith)) (omega arith)
 
   -- and so can one after any slots, where it could before them
-  module _ (left : List ℕ) (cores n : ℕ) (supplies declines : List ℕ) where
-    length-course : (k : ℕ) → length (courseTo (viewOf plan) cores n supplies declines left k .left) ≡ length left
+  module _ (left : List ℕ) (cores n : ℕ) (settings : List Setting) (supplies declines : List ℕ) where
+    length-course : (k : ℕ) → length (courseTo (viewOf plan) cores n settings supplies declines left k .left) ≡ length left
     unfolding courseTo
     length-course zero = refl
     length-course (suc k) =
-        length-slot (viewOf plan) (getD declines k 0) (getD supplies k 0) cores (n + k) (courseTo (viewOf plan) cores n supplies declines left k .left)
+        length-slot (getD settings k Off) (viewOf plan) cores (n + k) (getD supplies k 0) (getD declines k 0)
+        (courseTo (viewOf plan) cores n settings supplies declines left k .left)
         ∙ length-course k
 
     pub course-held : (before after : ℕ) → HeldState (record { clock = before; left = left }) → (k : ℕ) →
-        HeldState (record { clock = after; left = courseTo (viewOf plan) cores n supplies declines left k .left })
+        HeldState (record { clock = after; left = courseTo (viewOf plan) cores n settings supplies declines left k .left })
     course-held before after held k =
         record {
           whole = length-course k ∙ held .whole;
           counts = λ i.
-              each-course (viewOf plan) (λ i x. i < 64 → x < 65536) (λ i l m. served-small i l) (λ i x l h m. omega (arith, h m)) cores n supplies declines left
-              (held .counts) k i;
+              each-course (viewOf plan) (λ i x. i < 64 → x < 65536) (λ i l m. served-small i l) (λ i x l h m. omega (arith, h m)) cores n settings
+              supplies declines left (held .counts) k i;
         }

@@ -1,5 +1,5 @@
 -- Numbers beyond their field are refused by 16: what specs/Promises.antt says of fresh starts, steps and runs. Assumes nothing.
-use Prim.Native.Nat.{ℕ}
+use Prim.Native.Nat.{ℕ, _≤_}
 use mathlib.Core.Bool.{Bool, true, false, cond, _&&_}
 use mathlib.Core.List.{List}
 use mathlib.Core.Path.{_≡_, refl}
@@ -11,7 +11,8 @@ use Rattle.plans.specs.Sound.{counts, sound}
 use Rattle.rules.specs.Check.{checked, isFit}
 use Rattle.dispatch.specs.Run.{Said, refused, Standing, started, ready, outcome, ran, stepped}
 use Rattle.numbers.specs.Numbers.{planOfNumbers, isPlan, isState}
-use Rattle.exports.specs.Exports.{unfitStepped, unfitRan, steppedBy, ranBy, freshening, stepping, running}
+use Rattle.exports.specs.Exports.{byNumbers, refusedRan, refusedStepped, steppedBy, ranBy, freshening, stepping, running}
+use Rattle.exports.proofs.Refusing.{within-set}
 use Rattle.exports.specs.Promises.{BeyondFresh, BeyondStep, BeyondRun}
 
 -- the plan value of zeros is not fit
@@ -34,33 +35,37 @@ pub beyond-fresh : BeyondFresh
 unfolding freshening started
 beyond-fresh plan lent whole h = rw (whole, beyond-unfit plan h)
 
--- what is unfit by itself, and otherwise wherever the plan is none, is unfit where the plan or the state is none
-unfit-by : {A : Type 0} (said : A → Said) (plan state : List ℕ) (given none : A) → said none ≡ refused 16 → (isPlan plan ≡ false → said given ≡ refused 16) →
-    (isPlan plan && isState state) ≡ false → said (cond (isState state) given none) ≡ refused 16
-unfit-by said plan state given none always beyond = go (isPlan plan) (isState state) refl
+-- what is unfit wherever the plan is none is unfit where the plan or the state is none, under either setting
+unfit-by : {A : Type 0} (said : A → Said) (setting : ℕ) (plan state : List ℕ) (given : A) (by : ℕ → A) → said (by 16) ≡ refused 16 →
+    (isPlan plan ≡ false → said given ≡ refused 16) → setting ≤ 1 → (isPlan plan && isState state) ≡ false → said (byNumbers setting state given by) ≡ refused 16
+unfolding byNumbers
+unfit-by said setting plan state given by always beyond set = rw (within-set setting set) (go (isPlan plan) (isState state) refl)
   where
-    go : (a b : Bool) → isPlan plan ≡ a → (a && b) ≡ false → said (cond b given none) ≡ refused 16
+    go : (a b : Bool) → isPlan plan ≡ a → (a && b) ≡ false → said (cond b given (by 16)) ≡ refused 16
     go a false e h = always
     go false true e h = beyond e
     go true true e h = cc
 
 -- so that a step
-unfit-step : (plan state : List ℕ) (supplied declines : ℕ) → (isPlan plan && isState state) ≡ false → steppedBy plan state supplied declines .outcome ≡ refused 16
+unfit-step : (setting : ℕ) (plan state : List ℕ) (supplied declines : ℕ) → setting ≤ 1 → (isPlan plan && isState state) ≡ false →
+    steppedBy setting plan state supplied declines .outcome ≡ refused 16
 unfolding steppedBy stepped ran
-unfit-step plan state supplied declines = unfit-by (λ r. r .outcome) plan state _ unfitStepped refl (λ e. beyond-outcome plan e _ _ _ _)
+unfit-step setting plan state supplied declines =
+    unfit-by (λ r. r .outcome) setting plan state _ refusedStepped refl (λ e. beyond-outcome plan e _ _ _ _)
 
 -- and a run of values one of which is none
-unfit-run : (plan state supplies declines : List ℕ) (room : ℕ) → (isPlan plan && isState state) ≡ false →
-    ranBy plan state supplies declines room .outcome ≡ refused 16
+unfit-run : (setting : ℕ) (plan state supplies declines : List ℕ) (room : ℕ) → setting ≤ 1 → (isPlan plan && isState state) ≡ false →
+    ranBy setting plan state supplies declines room .outcome ≡ refused 16
 unfolding ranBy ran
-unfit-run plan state supplies declines room = unfit-by (λ r. r .outcome) plan state _ unfitRan refl (λ e. beyond-outcome plan e _ _ _ _)
+unfit-run setting plan state supplies declines room =
+    unfit-by (λ r. r .outcome) setting plan state _ refusedRan refl (λ e. beyond-outcome plan e _ _ _ _)
 
 -- are refused by 16 too
 pub beyond-step : BeyondStep
 unfolding stepping
-beyond-step plan state supplied declines grants whole eight h =
-    rw (whole, eq-eqb (length grants) 8 eight, unfit-step plan state supplied declines h)
+beyond-step setting plan state supplied declines grants whole eight set h =
+    rw (whole, eq-eqb (length grants) 8 eight, unfit-step setting plan state supplied declines set h)
 
 pub beyond-run : BeyondRun
 unfolding running
-beyond-run plan state supplies declines out whole h = rw (whole, unfit-run plan state supplies declines (length out) h)
+beyond-run setting plan state supplies declines out whole set h = rw (whole, unfit-run setting plan state supplies declines (length out) set h)

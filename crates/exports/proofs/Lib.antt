@@ -4,5 +4,6 @@ pub mod Giving
 pub mod Places
 pub mod Writes
 pub mod Beyond
+pub mod Unset
 pub mod Kept
 pub mod Again

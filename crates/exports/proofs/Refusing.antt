@@ -1,10 +1,11 @@
 -- Refusals as one number, one law a return; and what is told of a time and of a pair. Assumes nothing.
 use Prim.Native.Nat.{ℕ, _+_, _*_, _≤_, _<_, min}
+use mathlib.Core.Bool.{true, false}
 use mathlib.Core.List.{List, [], _∷_}
 use mathlib.Core.Path.{_≡_, sym}
 use native.Mathlib.Omega.{arith}
 use lib.ListN.{length, set}
-use borrow.Author.Tests.{eq-eqb, ne-eqb}
+use borrow.Author.Tests.{eq-eqb, ne-eqb, le-leb, lt-leb}
 use Rattle.ticks.specs.Times as times
 use Rattle.ticks.specs.declared.Answer.{Answer as Time}
 use Rattle.ticks.specs.declared.Answer.the-variants as time
@@ -17,7 +18,8 @@ use Rattle.answers.specs.declared.Answer.{Answer}
 use Rattle.answers.specs.declared.Answer.the-variants.{Accepted, Refused}
 use Rattle.dispatch.specs.Run.{said}
 use Rattle.dispatch.specs.declared.Outcome.{Outcome}
-use Rattle.exports.specs.Exports.{placeless, refusal, answerOf, outcomeOf, telling, placeOf, decidingBy, kindNumbered}
+use Rattle.dispatch.specs.declared.Setting.the-variants.{Off, On}
+use Rattle.exports.specs.Exports.{placeless, refusal, answerOf, outcomeOf, telling, placeOf, decidingBy, kindNumbered, isSetting, settingNumbered}
 use Rattle.numbers.proofs.Stored.{sets-all}
 
 -- a place that the high half holds
@@ -77,6 +79,26 @@ kind-aligned b e = rw e
 pub kind-sliding : (b : ℕ) → (b ≡ 0 → ⊥) → Sliding ≡ kindNumbered b
 unfolding kindNumbered
 kind-sliding b h = rw (ne-eqb b 0 h)
+
+-- a number over 1 is no setting's
+pub over-unset : (b : ℕ) → 1 < b → isSetting b ≡ false
+unfolding isSetting
+over-unset b h = lt-leb b 1 h
+
+-- and 0 and 1 are
+pub within-set : (b : ℕ) → b ≤ 1 → isSetting b ≡ true
+unfolding isSetting
+within-set b h = le-leb b 1 h
+
+-- setting 0 is off
+pub setting-off : (b : ℕ) → b ≡ 0 → Off ≡ settingNumbered b
+unfolding settingNumbered
+setting-off b e = rw e
+
+-- and any other number is taken for on
+pub setting-on : (b : ℕ) → (b ≡ 0 → ⊥) → On ≡ settingNumbered b
+unfolding settingNumbered
+setting-on b h = rw (ne-eqb b 0 h)
 
 -- a pair's refusal by place 255 has no place
 pub pair-nowhere : (number place x : ℕ) → place ≡ 255 → x ≡ refusal number placeless → x ≡ refusal number (placeOf (placed 255 place))

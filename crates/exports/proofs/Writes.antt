@@ -70,9 +70,9 @@ refused-pair gives giver wants wanted out lent =
 
 -- runs
 pub refused-run : RefusedRun
-unfolding running ranBy exports.outBy ran outAfter
-refused-run plan state supplies declines out =
-    go (areWhole plan state) (isState state) (outcome p s (length supplies) (length declines) (length out)) _ _ _
+unfolding running ranBy exports.outBy exports.byNumbers ran outAfter
+refused-run setting plan state supplies declines out =
+    go (areWhole plan state) (exports.isSetting setting) (isState state) (outcome p s (length supplies) (length declines) (length out)) _ _ _
   where
     p : Plan
     p = planOfNumbers plan
@@ -80,35 +80,38 @@ refused-run plan state supplies declines out =
     s : Standing
     s = stateOfNumbers state
 
-    go : (a f : Bool) (o : Said) (after : Standing) (n : ℕ) (c : Course) →
-        let r : RunEnd = cond f (record { outcome = o; state = after }) exports.unfitRan in
+    go : (a b f : Bool) (o : Said) (after : Standing) (n : ℕ) (c : Course) →
+        let r : RunEnd = cond b (cond f (record { outcome = o; state = after }) (exports.refusedRan 16)) (exports.refusedRan 5) in
         let kept = keeping (r .outcome) (r .state) state in
-        let w : ℕ × List ℕ × List ℕ = cond a (kept .0, kept .1, cond f (outBy o n c out) out) (misfit, state, out) in
+        let w : ℕ × List ℕ × List ℕ = cond a (kept .0, kept .1, cond b (cond f (outBy o n c out) out) out) (misfit, state, out) in
         (w .0 ≡ 0 → ⊥) → (w .1 ≡ state) × (w .2 ≡ out)
+    go true true true done after n c h = absurd (h refl)
+    go true true true (runs.refused r) after n c h = (refl, refl)
+    go true true false o after n c h = (refl, refl)
+    go true false f o after n c h = (refl, refl)
+    go false b f o after n c h = (refl, refl)
+
+-- steps
+pub refused-step : RefusedStep
+unfolding stepping steppedBy exports.byNumbers stepped ran outAfter
+refused-step setting plan state supplied declines grants whole eight =
+    rw (whole, eq-eqb (length grants) 8 eight) (go (exports.isSetting setting) (isState state) (outcome p s 1 1 8) _ _ _)
+  where
+    p : Plan
+    p = planOfNumbers plan
+
+    s : Standing
+    s = stateOfNumbers state
+
+    go : (b f : Bool) (o : Said) (after : Standing) (n : ℕ) (c : Course) →
+        let given : StepEnd = record { outcome = o; state = after; grants = outBy o n c (replicate 8 unsupplied) } in
+        let r : StepEnd = cond b (cond f given (exports.refusedStepped 16)) (exports.refusedStepped 5) in
+        let kept = keeping (r .outcome) (r .state) state in
+        (kept .0 ≡ 0 → ⊥) → (kept .1 ≡ state) × (r .grants ≡ replicate 8 unsupplied)
     go true true done after n c h = absurd (h refl)
     go true true (runs.refused r) after n c h = (refl, refl)
     go true false o after n c h = (refl, refl)
     go false f o after n c h = (refl, refl)
-
--- steps
-pub refused-step : RefusedStep
-unfolding stepping steppedBy stepped ran outAfter
-refused-step plan state supplied declines grants whole eight =
-    rw (whole, eq-eqb (length grants) 8 eight) (go (isState state) (outcome p s 1 1 8) _ _ _)
-  where
-    p : Plan
-    p = planOfNumbers plan
-
-    s : Standing
-    s = stateOfNumbers state
-
-    go : (f : Bool) (o : Said) (after : Standing) (n : ℕ) (c : Course) →
-        let r : StepEnd = cond f (record { outcome = o; state = after; grants = outBy o n c (replicate 8 unsupplied) }) exports.unfitStepped in
-        let kept = keeping (r .outcome) (r .state) state in
-        (kept .0 ≡ 0 → ⊥) → (kept .1 ≡ state) × (r .grants ≡ replicate 8 unsupplied)
-    go true done after n c h = absurd (h refl)
-    go true (runs.refused r) after n c h = (refl, refl)
-    go false o after n c h = (refl, refl)
 
 -- reads
 pub refused-read : RefusedRead
@@ -125,7 +128,7 @@ unfolding freshening started stateNumbers
 refused-fresh plan lent whole = rw whole (go (isFit (planOfNumbers plan)) _)
   where
     go : (f : Bool) (left : List ℕ) →
-        let r : RunEnd = cond f (record { outcome = done; state = record { clock = 0; left = left } }) exports.unfitRan in
+        let r : RunEnd = cond f (record { outcome = done; state = record { clock = 0; left = left } }) (exports.refusedRan 16) in
         (exports.outcomeOf (r .outcome) ≡ 0 → ⊥) → stateNumbers (r .state) ≡ replicate 65 0
     go true left h = absurd (h refl)
     go false left h = refl

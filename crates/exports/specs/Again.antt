@@ -7,15 +7,15 @@ use mathlib.Core.Path.{_≡_}
 use lib.ListN.{length}
 use Rattle.dispatch.specs.Run.{Standing, started, ran, stepped}
 use Rattle.numbers.specs.Numbers.{planOfNumbers, stateOfNumbers, isState}
-use Rattle.exports.specs.Exports.{placeless, refusal, freshening, stepping, running}
+use Rattle.exports.specs.Exports.{placeless, refusal, settingNumbered, freshening, stepping, running}
 
 -- The numbers that are left for the state `after`: they are a state's, 65 of them and each within its field; they read back as that very state; and neither
--- a step nor a run with this plan answers 16 for it.
+-- a step nor a run with this plan answers 16 for it, under whatever setting.
 pub record HandedBack (plan : List ℕ) (after : Standing) (numbers : List ℕ) : Type 0 where
   pub fit : isState numbers ≡ true
   pub back : stateOfNumbers numbers ≡ after
-  pub step : (supplied declines : ℕ) (grants : List ℕ) → stepping plan numbers supplied declines grants .0 ≡ refusal 16 placeless → ⊥
-  pub run : (supplies declines out : List ℕ) → running plan numbers supplies declines out .0 ≡ refusal 16 placeless → ⊥
+  pub step : (setting supplied declines : ℕ) (grants : List ℕ) → stepping setting plan numbers supplied declines grants .0 ≡ refusal 16 placeless → ⊥
+  pub run : (setting : ℕ) (supplies declines out : List ℕ) → running setting plan numbers supplies declines out .0 ≡ refusal 16 placeless → ⊥
 
 -- after a fresh start that answers 0
 abbrev pub FreshHandsBack : Type 0
@@ -25,13 +25,13 @@ FreshHandsBack =
 -- after a step that answers 0
 abbrev pub StepHandsBack : Type 0
 StepHandsBack =
-    (plan state : List ℕ) (supplied declines : ℕ) (grants : List ℕ) →
-    let w = stepping plan state supplied declines grants in
-    w .0 ≡ 0 → HandedBack plan (stepped (planOfNumbers plan) (stateOfNumbers state) supplied declines .state) (w .1)
+    (setting : ℕ) (plan state : List ℕ) (supplied declines : ℕ) (grants : List ℕ) →
+    let w = stepping setting plan state supplied declines grants in
+    w .0 ≡ 0 → HandedBack plan (stepped (settingNumbered setting) (planOfNumbers plan) (stateOfNumbers state) supplied declines .state) (w .1)
 
 -- after a run that answers 0
 abbrev pub RunHandsBack : Type 0
 RunHandsBack =
-    (plan state supplies declines out : List ℕ) →
-    let w = running plan state supplies declines out in
-    w .0 ≡ 0 → HandedBack plan (ran (planOfNumbers plan) (stateOfNumbers state) supplies declines (length out) .state) (w .1)
+    (setting : ℕ) (plan state supplies declines out : List ℕ) →
+    let w = running setting plan state supplies declines out in
+    w .0 ≡ 0 → HandedBack plan (ran (settingNumbered setting) (planOfNumbers plan) (stateOfNumbers state) supplies declines (length out) .state) (w .1)

@@ -21,6 +21,8 @@ use Rattle.reader.specs.Read.{readPlan, nameOf}
 use Rattle.dispatch.specs.Slot.{unsupplied}
 use Rattle.dispatch.specs.Run.{Standing, RunEnd, StepEnd, zeroState, started, ran, stepped}
 use Rattle.dispatch.specs.Run as runs
+use Rattle.dispatch.specs.declared.Setting.{Setting}
+use Rattle.dispatch.specs.declared.Setting.the-variants.{Off, On}
 use Rattle.numbers.specs.Numbers.{planNumbers, planOfNumbers, stateNumbers, stateOfNumbers, isState}
 
 -- A refusal: its number in the low half, its place in the high half. A place that the half does not hold, or none, is `placeless`; no read has one that
@@ -101,26 +103,39 @@ abbrev pub outcomeOf : runs.Said → ℕ
 outcomeOf runs.done = 0
 outcomeOf (runs.refused r) = refusal r placeless
 
--- Numbers out of their fields are answered as an unfit value is, by 16 (Promises). A plan's say the plan value of zeros, which is not fit. A state's say
--- one of zeros, which may be, so they are told apart here.
-abbrev pub unfitRan : RunEnd
-unfitRan = record { outcome = runs.refused 16; state = zeroState }
+-- 0 off, 1 on; no other number is that of a setting
+unfoldable pub isSetting : ℕ → Bool
+isSetting b = leb b 1
 
-abbrev pub unfitStepped : StepEnd
-unfitStepped = record { outcome = runs.refused 16; state = zeroState; grants = replicate 8 unsupplied }
+unfoldable pub settingNumbered : ℕ → Setting
+settingNumbered b = cond (eqb b 0) Off On
+
+-- A number that is no setting's is refused by 5, as that of a kind is, before any value is looked at; a call has one setting, so there is no place to tell.
+-- Numbers out of their fields are answered as an unfit value is, by 16 (Promises). A plan's say the plan value of zeros, which is not fit. A state's say one
+-- of zeros, which may be, so they are told apart here.
+unfoldable pub byNumbers : {A : Type 0} → ℕ → List ℕ → A → (ℕ → A) → A
+byNumbers setting state given refusedBy = cond (isSetting setting) (cond (isState state) given (refusedBy 16)) (refusedBy 5)
+
+-- How a run and a step end that are so refused. They are no outcomes of dispatch, which is given a setting and a state. What state they have does not matter:
+-- it is not laid down.
+abbrev pub refusedRan : ℕ → RunEnd
+refusedRan r = record { outcome = runs.refused r; state = zeroState }
+
+abbrev pub refusedStepped : ℕ → StepEnd
+refusedStepped r = record { outcome = runs.refused r; state = zeroState; grants = replicate 8 unsupplied }
 
 -- a step, a run and its room, of the values that the numbers say
-unfoldable pub steppedBy : List ℕ → List ℕ → ℕ → ℕ → StepEnd
-steppedBy plan state supplied declines =
-    cond (isState state) (stepped (planOfNumbers plan) (stateOfNumbers state) supplied declines) unfitStepped
+unfoldable pub steppedBy : ℕ → List ℕ → List ℕ → ℕ → ℕ → StepEnd
+steppedBy setting plan state supplied declines =
+    byNumbers setting state (stepped (settingNumbered setting) (planOfNumbers plan) (stateOfNumbers state) supplied declines) refusedStepped
 
-unfoldable pub ranBy : List ℕ → List ℕ → List ℕ → List ℕ → ℕ → RunEnd
-ranBy plan state supplies declines room =
-    cond (isState state) (ran (planOfNumbers plan) (stateOfNumbers state) supplies declines room) unfitRan
+unfoldable pub ranBy : ℕ → List ℕ → List ℕ → List ℕ → List ℕ → ℕ → RunEnd
+ranBy setting plan state supplies declines room =
+    byNumbers setting state (ran (settingNumbered setting) (planOfNumbers plan) (stateOfNumbers state) supplies declines room) refusedRan
 
-unfoldable pub outBy : List ℕ → List ℕ → List ℕ → List ℕ → List ℕ → List ℕ
-outBy plan state supplies declines out =
-    cond (isState state) (runs.outAfter (planOfNumbers plan) (stateOfNumbers state) supplies declines out) out
+unfoldable pub outBy : ℕ → List ℕ → List ℕ → List ℕ → List ℕ → List ℕ → List ℕ
+outBy setting plan state supplies declines out =
+    byNumbers setting state (runs.outAfter (settingNumbered setting) (planOfNumbers plan) (stateOfNumbers state) supplies declines out) (λ r. out)
 
 -- 01: a refusal "hands back the given state": it is written only where the call was done
 abbrev pub keeping : runs.Said → Standing → List ℕ → ℕ × List ℕ
@@ -138,15 +153,15 @@ freshening plan lent =
     cond (areWhole plan lent) (outcomeOf (s .outcome), stateNumbers (s .state)) (misfit, lent)
 
 -- mettulos_step: the state, and the eight answers, which are 255 where it is refused
-unfoldable pub stepping : List ℕ → List ℕ → ℕ → ℕ → List ℕ → ℕ × List ℕ × List ℕ
-stepping plan state supplied declines grants =
-    let s = steppedBy plan state supplied declines in
+unfoldable pub stepping : ℕ → List ℕ → List ℕ → ℕ → ℕ → List ℕ → ℕ × List ℕ × List ℕ
+stepping setting plan state supplied declines grants =
+    let s = steppedBy setting plan state supplied declines in
     let kept = keeping (s .outcome) (s .state) state in
     cond (areWhole plan state && eqb (length grants) 8) (kept .0, kept .1, s .grants) (misfit, state, grants)
 
 -- mettulos_run: the state, and the room with the answers at its front
-unfoldable pub running : List ℕ → List ℕ → List ℕ → List ℕ → List ℕ → ℕ × List ℕ × List ℕ
-running plan state supplies declines out =
-    let s = ranBy plan state supplies declines (length out) in
+unfoldable pub running : ℕ → List ℕ → List ℕ → List ℕ → List ℕ → List ℕ → ℕ × List ℕ × List ℕ
+running setting plan state supplies declines out =
+    let s = ranBy setting plan state supplies declines (length out) in
     let kept = keeping (s .outcome) (s .state) state in
-    cond (areWhole plan state) (kept .0, kept .1, outBy plan state supplies declines out) (misfit, state, out)
+    cond (areWhole plan state) (kept .0, kept .1, outBy setting plan state supplies declines out) (misfit, state, out)

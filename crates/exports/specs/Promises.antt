@@ -1,4 +1,4 @@
--- What is promised of what one call hands to the next, and of refusals. Why each holds is in proofs/: Kept, Places, Writes and Beyond.
+-- What is promised of what one call hands to the next, and of refusals. Why each holds is in proofs/: Kept, Places, Writes, Unset and Beyond.
 -- Assumes nothing.
 use Prim.Native.Nat.{ℕ, _/_, _%_, _≤_, _<_, min}
 use mathlib.Core.Bool.{true, false, _&&_}
@@ -51,14 +51,14 @@ RefusedPair =
 -- of a run, state and room as they were
 abbrev pub RefusedRun : Type 0
 RefusedRun =
-    (plan state supplies declines out : List ℕ) →
-    let w = running plan state supplies declines out in (w .0 ≡ 0 → ⊥) → (w .1 ≡ state) × (w .2 ≡ out)
+    (setting : ℕ) (plan state supplies declines out : List ℕ) →
+    let w = running setting plan state supplies declines out in (w .0 ≡ 0 → ⊥) → (w .1 ≡ state) × (w .2 ≡ out)
 
 -- of a step, the state as it was, and answers of 255 where there is a place for each
 abbrev pub RefusedStep : Type 0
 RefusedStep =
-    (plan state : List ℕ) (supplied declines : ℕ) (grants : List ℕ) → areWhole plan state ≡ true → length grants ≡ 8 →
-    let w = stepping plan state supplied declines grants in (w .0 ≡ 0 → ⊥) → (w .1 ≡ state) × (w .2 ≡ replicate 8 unsupplied)
+    (setting : ℕ) (plan state : List ℕ) (supplied declines : ℕ) (grants : List ℕ) → areWhole plan state ≡ true → length grants ≡ 8 →
+    let w = stepping setting plan state supplied declines grants in (w .0 ≡ 0 → ⊥) → (w .1 ≡ state) × (w .2 ≡ replicate 8 unsupplied)
 
 -- of a read, zeros
 abbrev pub RefusedRead : Type 0
@@ -68,18 +68,35 @@ RefusedRead = (bytes lent : List ℕ) → length lent ≡ 404 → let w = readin
 abbrev pub RefusedFresh : Type 0
 RefusedFresh = (plan lent : List ℕ) → areWhole plan lent ≡ true → let w = freshening plan lent in (w .0 ≡ 0 → ⊥) → w .1 ≡ replicate 65 0
 
+-- an answer is 5 with no place where this is so, and else it is never 5, with a place or with none
+abbrev pub FiveExactly : ℕ → Type 0 → Type 0
+FiveExactly answer unset = (unset → answer ≡ refusal 5 placeless) × ((place : ℕ) → answer ≡ refusal 5 place → unset)
+
+-- include/mettulos.h: a setting that is neither 0 nor 1 is refused by 5, once the lengths are right and before anything else is looked at, and nothing else is.
+-- Of a step:
+abbrev pub UnsetStep : Type 0
+UnsetStep =
+    (setting : ℕ) (plan state : List ℕ) (supplied declines : ℕ) (grants : List ℕ) →
+    FiveExactly (stepping setting plan state supplied declines grants .0) ((areWhole plan state ≡ true) × (length grants ≡ 8) × (1 < setting))
+
+-- of a run, before its other lengths are looked at:
+abbrev pub UnsetRun : Type 0
+UnsetRun =
+    (setting : ℕ) (plan state supplies declines out : List ℕ) →
+    FiveExactly (running setting plan state supplies declines out .0) ((areWhole plan state ≡ true) × (1 < setting))
+
 -- include/mettulos.h: numbers beyond their field, in unused entries too, "make the value unfit: 16", once the lengths are right. Of a fresh start:
 abbrev pub BeyondFresh : Type 0
 BeyondFresh = (plan lent : List ℕ) → areWhole plan lent ≡ true → isPlan plan ≡ false → freshening plan lent .0 ≡ refusal 16 placeless
 
--- of a step:
+-- of a step under either setting:
 abbrev pub BeyondStep : Type 0
 BeyondStep =
-    (plan state : List ℕ) (supplied declines : ℕ) (grants : List ℕ) → areWhole plan state ≡ true → length grants ≡ 8 →
-    (isPlan plan && isState state) ≡ false → stepping plan state supplied declines grants .0 ≡ refusal 16 placeless
+    (setting : ℕ) (plan state : List ℕ) (supplied declines : ℕ) (grants : List ℕ) → areWhole plan state ≡ true → length grants ≡ 8 → setting ≤ 1 →
+    (isPlan plan && isState state) ≡ false → stepping setting plan state supplied declines grants .0 ≡ refusal 16 placeless
 
 -- of a run, before its other lengths are looked at:
 abbrev pub BeyondRun : Type 0
 BeyondRun =
-    (plan state supplies declines out : List ℕ) → areWhole plan state ≡ true → (isPlan plan && isState state) ≡ false →
-    running plan state supplies declines out .0 ≡ refusal 16 placeless
+    (setting : ℕ) (plan state supplies declines out : List ℕ) → areWhole plan state ≡ true → setting ≤ 1 → (isPlan plan && isState state) ≡ false →
+    running setting plan state supplies declines out .0 ≡ refusal 16 placeless

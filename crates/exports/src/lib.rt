@@ -98,9 +98,10 @@ pub extern "C" fn mettulos_fresh(plan: &[u32], state: &mut [u64]) -> u64
     refusals::of_outcome(outcome)
 }
 
-// One slot.
+// One slot, under a setting.
 #[no_mangle]
 pub extern "C" fn mettulos_step(
+    setting: u8,
     plan: &[u32],
     state: &mut [u64],
     supplied: u8,
@@ -108,7 +109,7 @@ pub extern "C" fn mettulos_step(
     grants: &mut [u8],
 ) -> u64
     ensures { λ r. ⌜ (r, now (state .exit), now (grants .exit)) ≡
-        stepping (now (plan .entry)) (now (state .entry)) supplied declines (now (grants .entry)) ⌝ }
+        stepping setting (now (plan .entry)) (now (state .entry)) supplied declines (now (grants .entry)) ⌝ }
 {
     if !slots::are_whole(plan, state) {
         return refusals::refusal(17, refusals::PLACELESS);
@@ -116,7 +117,12 @@ pub extern "C" fn mettulos_step(
     if grants.len() != 8 {
         return refusals::refusal(17, refusals::PLACELESS);
     }
-    let stepped = slots::step(plan, state, supplied, declines);
+    if !slots::is_setting(setting) {
+        let none = [255; 8];
+        slots::put_grants(none, grants);
+        return refusals::refusal(5, refusals::PLACELESS);
+    }
+    let stepped = slots::step(setting, plan, state, supplied, declines);
     let answers = stepped.grants;
     slots::put_grants(answers, grants);
     let outcome = stepped.outcome;
@@ -124,9 +130,10 @@ pub extern "C" fn mettulos_step(
     slots::keep(outcome, after, state)
 }
 
-// As many slots as there are supply bytes.
+// As many slots as there are supply bytes, all under one setting.
 #[no_mangle]
 pub extern "C" fn mettulos_run(
+    setting: u8,
     plan: &[u32],
     state: &mut [u64],
     supplies: &[u8],
@@ -134,12 +141,15 @@ pub extern "C" fn mettulos_run(
     out: &mut [u8],
 ) -> u64
     ensures { λ r. ⌜ (r, now (state .exit), now (out .exit)) ≡
-        running (now (plan .entry)) (now (state .entry)) (now (supplies .entry)) (now (declines .entry)) (now (out .entry)) ⌝ }
+        running setting (now (plan .entry)) (now (state .entry)) (now (supplies .entry)) (now (declines .entry)) (now (out .entry)) ⌝ }
 {
     if !slots::are_whole(plan, state) {
         return refusals::refusal(17, refusals::PLACELESS);
     }
-    let ran = slots::run(plan, state, supplies, declines, out);
+    if !slots::is_setting(setting) {
+        return refusals::refusal(5, refusals::PLACELESS);
+    }
+    let ran = slots::run(setting, plan, state, supplies, declines, out);
     let outcome = ran.outcome;
     let after = ran.state;
     slots::keep(outcome, after, state)

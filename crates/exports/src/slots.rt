@@ -1,10 +1,12 @@
 // Giving out slots from numbers: those out of their fields are answered as an unfit value is.
+ghost use mathlib.Core.Bool.{true};
 ghost use mathlib.Core.Path.{_≡_};
 ghost use lib.ListN.{length};
 ghost use Rattle.dispatch.specs.Run.{said, standing, runEnd, stepEnd};
-ghost use Rattle.exports.specs.Exports.{areWhole, steppedBy, ranBy, outBy, keeping};
+ghost use Rattle.exports.specs.Exports.{isSetting, settingNumbered, areWhole, steppedBy, ranBy, outBy, keeping};
 use dispatch::Outcome;
 use dispatch::Ran;
+use dispatch::Setting;
 use dispatch::State;
 use dispatch::Stepped;
 
@@ -15,9 +17,27 @@ pub fn are_whole(plan: &[u32], state: &[u64]) -> bool
     basics::both(plan.len() == 404, state.len() == 65)
 }
 
+// Whether a number is that of a setting.
+pub fn is_setting(b: u8) -> bool
+    ensures { λ r. ⌜ r ≡ isSetting b ⌝ }
+{
+    b <= 1
+}
+
+// Settings 0 and 1; another is refused before it comes here.
+fn setting_of(b: u8) -> Setting
+    ensures { λ r. ⌜ r ≡ settingNumbered b ⌝ }
+{
+    match b {
+        0 => Setting::Off,
+        _ => Setting::On,
+    }
+}
+
 // One slot, of the values that the numbers say. What state an unfit step hands back does not matter: it is not laid down.
-pub fn step(plan: &[u32], state: &[u64], supplied: u8, declines: u64) -> Stepped
-    ensures { λ r. ⌜ stepEnd r ≡ steppedBy (now (plan .entry)) (now (state .entry)) supplied declines ⌝ }
+pub fn step(setting: u8, plan: &[u32], state: &[u64], supplied: u8, declines: u64) -> Stepped
+    requires { ⌜ isSetting setting ≡ true ⌝ }
+    ensures { λ r. ⌜ stepEnd r ≡ steppedBy setting (now (plan .entry)) (now (state .entry)) supplied declines ⌝ }
 {
     let given = numbers::state_of(state);
     let before = given.state;
@@ -29,14 +49,23 @@ pub fn step(plan: &[u32], state: &[u64], supplied: u8, declines: u64) -> Stepped
             grants: none,
         };
     }
-    dispatch::step(numbers::plan_of(plan), before, supplied, declines)
+    let value = numbers::plan_of(plan);
+    dispatch::step(setting_of(setting), value, before, supplied, declines)
 }
 
 // A run, in the same way.
-pub fn run(plan: &[u32], state: &[u64], supplies: &[u8], declines: &[u64], out: &mut [u8]) -> Ran
-    ensures result { λ r. ⌜ runEnd r ≡ ranBy (now (plan .entry)) (now (state .entry)) (now (supplies .entry)) (now (declines .entry)) (length (now (out .entry))) ⌝ }
+pub fn run(
+    setting: u8,
+    plan: &[u32],
+    state: &[u64],
+    supplies: &[u8],
+    declines: &[u64],
+    out: &mut [u8],
+) -> Ran
+    requires { ⌜ isSetting setting ≡ true ⌝ }
+    ensures result { λ r. ⌜ runEnd r ≡ ranBy setting (now (plan .entry)) (now (state .entry)) (now (supplies .entry)) (now (declines .entry)) (length (now (out .entry))) ⌝ }
     ensures buffer { λ r. ⌜ now (out .exit) ≡
-        outBy (now (plan .entry)) (now (state .entry)) (now (supplies .entry)) (now (declines .entry)) (now (out .entry)) ⌝ }
+        outBy setting (now (plan .entry)) (now (state .entry)) (now (supplies .entry)) (now (declines .entry)) (now (out .entry)) ⌝ }
 {
     let given = numbers::state_of(state);
     let before = given.state;
@@ -46,7 +75,8 @@ pub fn run(plan: &[u32], state: &[u64], supplies: &[u8], declines: &[u64], out: 
             state: before,
         };
     }
-    dispatch::run(numbers::plan_of(plan), before, supplies, declines, out)
+    let value = numbers::plan_of(plan);
+    dispatch::run(setting_of(setting), value, before, supplies, declines, out)
 }
 
 // The eight answers of a step.

@@ -14,6 +14,9 @@ returns c = (search (run-unfit, not-true), search (room-unfit, not-true))
 plan-of-requires : tie.Need-plan-of-requires
 plan-of-requires c κs = search needs
 
+setting-of-requires : tie.Need-setting-of-requires
+setting-of-requires c κs = search needs
+
 run-requires : tie.Need-run-requires
 run-requires c κs = search needs
 
@@ -26,4 +29,4 @@ returns-2 c = (search (run-given, not-false), search (room-given, not-false))
 pub run-spec : {M : Type 1} → statement M
 run-spec =
     tie.close
-    (tie.spec state-of-requires returns plan-of-requires run-requires same-length returns-2)
+    (tie.spec state-of-requires returns plan-of-requires setting-of-requires run-requires same-length returns-2)

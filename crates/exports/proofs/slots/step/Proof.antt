@@ -14,6 +14,9 @@ returns c = search (step-unfit, not-true)
 plan-of-requires : tie.Need-plan-of-requires
 plan-of-requires c κs = search needs
 
+setting-of-requires : tie.Need-setting-of-requires
+setting-of-requires c κs = search needs
+
 step-requires : tie.Need-step-requires
 step-requires c κs = search needs
 
@@ -21,4 +24,4 @@ returns-2 : tie.Need-returns-2
 returns-2 c = search (step-given, not-false)
 
 pub step-spec : {M : Type 1} → statement M
-step-spec = tie.close (tie.spec state-of-requires returns plan-of-requires step-requires returns-2)
+step-spec = tie.close (tie.spec state-of-requires returns plan-of-requires setting-of-requires step-requires returns-2)

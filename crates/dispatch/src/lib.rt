@@ -125,14 +125,12 @@ pub fn step(setting: Setting, plan: Plan, state: State, supplied: u8, declines: 
         };
     };
     let clock = state.clock;
+    let next = clock + 1;
     let before = state.left;
     let served = walks::serve(setting, plan, clock, supplied, declines, before);
     let grants = served.grants;
     let left = served.left;
-    let state = State {
-        clock: clock + 1,
-        left,
-    };
+    let state = State { clock: next, left };
     Stepped {
         outcome,
         state,

@@ -156,7 +156,7 @@ slot-brief : (setting : Setting) (v : View) → v .size ≤ 64 → (cores n supp
 unfolding slot
 slot-brief setting v few cores n supplied declines left =
     let full = refilled v n left in
-    serve-brief v few (passedOver setting v full declines) supplied (slotStart full) (λ k. rw (replicate-everywhere 8 k 255) unsupplied-brief) cores
+    serve-brief v few (passedOver setting v full declines) supplied (slotStart full) (λ k. rw (replicate-everywhere {A = ℕ} 8 k 255) unsupplied-brief) cores
 
 -- and of a run
 course-brief : (v : View) → v .size ≤ 64 → (cores n : ℕ) (settings : List Setting) (supplies declines left : List ℕ) (i : ℕ) →

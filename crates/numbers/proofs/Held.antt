@@ -40,7 +40,7 @@ said-held xs = go (isState xs) refl
           whole = length-filled (countIn xs) (replicate 64 0) 64;
           counts = λ i l. rw (filled-at (countIn xs) (replicate 64 0) 64 i 0 l (omega arith)) (omega (arith, said-small xs e i l));
         }
-    go false e = record { whole = refl; counts = λ i l. rw (replicate-everywhere 64 i 0) (omega arith) }
+    go false e = record { whole = refl; counts = λ i l. rw (replicate-everywhere {A = ℕ} 64 i 0) (omega arith) }
 
 module _ (plan : Plan) (sound : Sound plan) where
   -- the served C of a node that is there is of 16 bits

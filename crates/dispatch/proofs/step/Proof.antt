@@ -14,15 +14,15 @@ enum-told c = search needs
 returns : tie.Need-returns
 returns c = search step-refused
 
+add-next : tie.Need-add-next
+add-next c = search (needs, done-fits)
+
 serve-requires : tie.Need-serve-requires
 serve-requires c κs = search done-sound
-
-add-t14 : tie.Need-add-t14
-add-t14 c = search (needs, done-fits)
 
 returns-2 : tie.Need-returns-2
 returns-2 c = search step-done
 
 pub step-spec : {M : Type 1} → statement M
 step-spec =
-    tie.close (tie.spec outcome-of-requires enum-told returns serve-requires add-t14 returns-2)
+    tie.close (tie.spec outcome-of-requires enum-told returns add-next serve-requires returns-2)

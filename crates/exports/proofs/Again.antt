@@ -140,7 +140,7 @@ run-held setting plan state supplies declines room held e =
 -- after a run
 pub run-hands-back : RunHandsBack
 unfolding running ranBy byNumbers
-run-hands-back setting plan state supplies declines out = go (areWhole plan state) (isSetting setting) (isState state) _
+run-hands-back setting plan state supplies declines out = go (areWhole plan state) (isSetting setting) (isState state) _ _
   where
     p : Plan
     p = planOfNumbers plan
@@ -154,24 +154,24 @@ run-hands-back setting plan state supplies declines out = go (areWhole plan stat
     r : RunEnd
     r = ran o p s supplies declines (length out)
 
-    go : (a b f : Bool) (x : List ℕ) →
-        let g : RunEnd = cond b (cond f r (refusedRan 16)) (refusedRan 5) in
+    go : (a b f : Bool) (q : ℕ) (x : List ℕ) →
+        let g : RunEnd = cond b (cond f r (refusedRan 16)) (refusedRan q) in
         let kept = keeping (g .outcome) (g .state) state in
         let w : ℕ × List ℕ × List ℕ = cond a (kept .0, kept .1, x) (misfit, state, out) in
         w .0 ≡ 0 → HandedBack plan (r .state) (w .1)
-    go true true true x h =
+    go true true true q x h =
         let d = kept-done (r .outcome) (r .state) state h in
         rw (d .1)
         (handed-back plan (r .state) (run-held o p s supplies declines (length out) (said-held state) (d .0)) (run-ready o p s supplies declines (length out) (d .0)))
-    go true true false x h = absurd (refusal-some 16 h)
-    go true false f x h = absurd (refusal-some 5 h)
-    go false b f x h = absurd (refusal-some 17 h)
+    go true true false q x h = absurd (refusal-some 16 h)
+    go true false f q x h = absurd (refusal-some q h)
+    go false b f q x h = absurd (refusal-some 17 h)
 
 -- after a step
 pub step-hands-back : StepHandsBack
 unfolding stepping steppedBy byNumbers stepped
 step-hands-back setting plan state supplied declines grants =
-    go (areWhole plan state && eqb (length grants) 8) (isSetting setting) (isState state)
+    go (areWhole plan state && eqb (length grants) 8) (isSetting setting) (isState state) _
   where
     p : Plan
     p = planOfNumbers plan
@@ -188,14 +188,14 @@ step-hands-back setting plan state supplied declines grants =
     held : r .outcome ≡ done → HeldState (r .state)
     held e = run-held o p s (supplied ∷ []) (declines ∷ []) 8 (said-held state) e
 
-    go : (a b f : Bool) →
-        let g : StepEnd = cond b (cond f r (refusedStepped 16)) (refusedStepped 5) in
+    go : (a b f : Bool) (q : ℕ) →
+        let g : StepEnd = cond b (cond f r (refusedStepped 16)) (refusedStepped q) in
         let kept = keeping (g .outcome) (g .state) state in
         let w : ℕ × List ℕ × List ℕ = cond a (kept .0, kept .1, g .grants) (misfit, state, grants) in
         w .0 ≡ 0 → HandedBack plan (r .state) (w .1)
-    go true true true h =
+    go true true true q h =
         let d = kept-done (r .outcome) (r .state) state h in
         rw (d .1) (handed-back plan (r .state) (held (d .0)) (step-ready o p s supplied declines (d .0)))
-    go true true false h = absurd (refusal-some 16 h)
-    go true false f h = absurd (refusal-some 5 h)
-    go false b f h = absurd (refusal-some 17 h)
+    go true true false q h = absurd (refusal-some 16 h)
+    go true false f q h = absurd (refusal-some q h)
+    go false b f q h = absurd (refusal-some 17 h)

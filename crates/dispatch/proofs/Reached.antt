@@ -1,5 +1,5 @@
 -- Runs and steps one after the other come to what one run over all their inputs comes to. Assumes nothing.
-use Prim.Native.Nat.{ℕ, _+_, _*_, _≤_}
+use Prim.Native.Nat.{ℕ, _+_, _*_}
 use mathlib.Core.Bool.{Bool, true, false, cond}
 use mathlib.Core.List.{List, [], _∷_, _++_}
 use mathlib.Core.Path.{_≡_, refl, sym, ap, _∙_}
@@ -37,7 +37,7 @@ use Rattle.dispatch.specs.Run.{
   stepped,
 }
 use Rattle.dispatch.specs.declared.Setting.{Setting}
-use Rattle.dispatch.specs.Reached.{Reached, at-start, by-run, by-step, OneRun, ReachedAsOne}
+use Rattle.dispatch.specs.Reached.{at-start, by-run, by-step, OneRun, ReachedAsOne}
 
 -- a fresh start that is done is that of a plan that fits
 start-fit : (plan : Plan) → started plan .outcome ≡ done → isFit plan ≡ true

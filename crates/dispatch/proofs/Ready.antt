@@ -1,7 +1,7 @@
 -- What holds of a node's count at its served C, and of one less, holds of it after any slots: so no node has more left than its served C, and a state that
 -- is handed back is ready again. Assumes nothing.
-use Prim.Native.Nat.{ℕ, zero, suc, _+_, _-_, _*_, _%_, _^_, _≤_, _<_}
-use mathlib.Core.Bool.{Bool, true, false, cond, _&&_}
+use Prim.Native.Nat.{ℕ, zero, suc, _+_, _-_, _%_, _^_, _≤_, _<_}
+use mathlib.Core.Bool.{Bool, true, false, cond}
 use mathlib.Core.List.{List}
 use mathlib.Core.Path.{_≡_, refl}
 use lib.Dec.{leb}
@@ -28,7 +28,6 @@ use Rattle.dispatch.specs.Run.{
   refused,
   Standing,
   RunEnd,
-  freshLeft,
   freshState,
   zeroState,
   leftWithin,

@@ -1,6 +1,6 @@
 -- A walk, and all the walks of a slot, ask only of nodes that are there whether they are passed over. Assumes nothing.
 use Prim.Native.Nat.{ℕ, zero, suc, _<_}
-use mathlib.Core.Bool.{Bool, cond}
+use mathlib.Core.Bool.{Bool}
 use mathlib.Core.List.{List}
 use mathlib.Core.Path.{_≡_, refl}
 use Rattle.plans.specs.declared.Parent.{Parent}
@@ -9,7 +9,7 @@ use Rattle.dispatch.proofs.Choices.{choice-same}
 use Rattle.dispatch.proofs.SlotsDepth.{follow-alike}
 use Rattle.dispatch.specs.View.{View}
 use Rattle.dispatch.specs.Choice.{choose}
-use Rattle.dispatch.specs.Slot.{SlotEnd, charge, follow, walk, granting, serveCore, serveTo}
+use Rattle.dispatch.specs.Slot.{SlotEnd, charge, walk, serveCore, serveTo}
 
 module _ (v : View) (passed others : ℕ → Bool) (same : (i : ℕ) → i < v .size → passed i ≡ others i) where
   -- two tests that agree on the nodes that are there give the same walk,

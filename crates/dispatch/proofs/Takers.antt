@@ -3,17 +3,14 @@
 use Prim.Native.Nat.{ℕ, zero, suc, _+_, _-_, _*_, _/_, _%_, _^_, _≤_, _<_}
 use mathlib.Core.Bool.{Bool, true, false, not, cond, _&&_, _||_, true≢false}
 use mathlib.Core.List.{List}
-use mathlib.Core.Logic.{_⊎_, inl, inr}
 use mathlib.Core.Path.{_≡_, refl, sym, ap, _∙_}
-use lib.Bits.{bitOr, or-shr, or-mod, or-zero-r}
+use lib.Bits.{bitOr, or-shr, or-mod}
 use lib.Pow.{pow-add, pow-lt, shl-exact, shl-shr, high, low, ones-split, ones-lt}
 use lib.Dec.{eqb}
-use lib.ListN.{getD}
-use borrow.Author.Tests.{eq-eqb, ne-eqb, eqb-true}
+use borrow.Author.Tests.{eq-eqb, ne-eqb}
 use native.Mathlib.Nat.{zero-div, mod-lt, div-eq-of-lt, one-mul, mul-mod-left, pow-suc}
 use native.Mathlib.Decide.{ℕ-discrete, decLt}
 use native.Mathlib.Omega.{arith}
-use Rattle.plans.proofs.Entries.{same-self, same-equal}
 use Rattle.plans.proofs.Kept.{sound-kept}
 use Rattle.plans.proofs.Parents.{host-earlier}
 use Rattle.plans.specs.Plan.{parentOf, same, nodeAt}
@@ -25,7 +22,7 @@ use Rattle.plans.specs.declared.Plan.{Plan}
 use Rattle.dispatch.proofs.Choices.{eligible-under, none-choice, some-choice}
 use Rattle.dispatch.proofs.Passing.{nobody-is, leaf-passed, host-kept, host-fixed}
 use Rattle.dispatch.specs.View.{View, viewOf, bitOf, isLeaf}
-use Rattle.dispatch.specs.Choice.{Pick, nobody, just, takes, eligible, choose}
+use Rattle.dispatch.specs.Choice.{takes, eligible}
 use Rattle.dispatch.specs.Passed.{isNobody, passedTo, passedOver, told, Tells, WithBits}
 use Rattle.dispatch.specs.declared.Setting.{Setting}
 use Rattle.dispatch.specs.declared.Setting.the-variants.{Off, On}

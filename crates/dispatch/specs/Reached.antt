@@ -7,7 +7,7 @@ use mathlib.Core.Path.{_≡_}
 use lib.ListN.{length, take, replicate}
 use Rattle.plans.specs.declared.Plan.{Plan}
 use Rattle.rules.specs.Check.{isFit}
-use Rattle.dispatch.specs.Run.{done, Standing, freshState, started, Course, courseBy, ran, outAfter, stepped}
+use Rattle.dispatch.specs.Run.{done, Standing, freshState, started, courseBy, ran, outAfter, stepped}
 use Rattle.dispatch.specs.declared.Setting.{Setting}
 
 -- A state reached from a fresh start by runs and steps that are done, with the settings, one for each slot, the supply bytes, the decline words and the answers

@@ -2,7 +2,7 @@
 -- they give. Why each statement holds is in proofs/. Assumes nothing.
 use Prim.Native.Nat.{ℕ, _%_, _*_}
 use mathlib.Core.Bool.{cond}
-use mathlib.Core.List.{List, [], _∷_, _++_}
+use mathlib.Core.List.{List, [], _∷_}
 use mathlib.Core.Path.{_≡_}
 use lib.Dec.{eqb}
 use lib.ListN.{length, replicate}

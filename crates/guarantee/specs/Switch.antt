@@ -1,6 +1,6 @@
 -- Document 02, request 12, at work: the same inputs under both settings and under a mixture of them, and what demand 3 comes to. Why each statement holds is in
 -- proofs/. Assumes nothing.
-use Prim.Native.Nat.{ℕ, _+_, _≤_}
+use Prim.Native.Nat.{ℕ}
 use mathlib.Core.List.{List, [], _∷_, _++_}
 use mathlib.Core.Path.{_≡_}
 use lib.ListN.{replicate}

@@ -14,7 +14,7 @@ use Rattle.plans.proofs.Parents.{host-hosts}
 use Rattle.plans.specs.declared.Plan.{Plan}
 use Rattle.rules.specs.Fit.{Fit, Child}
 use Rattle.dispatch.specs.View.{View, viewOf, isLeaf, servedT}
-use Rattle.dispatch.specs.Choice.{nobody, just, choose}
+use Rattle.dispatch.specs.Choice.{just, choose}
 use Rattle.dispatch.specs.Passed.{passedOver, levelsDown}
 use Rattle.dispatch.specs.declared.Setting.{Setting}
 use Rattle.dispatch.proofs.Passing.{passed-below}

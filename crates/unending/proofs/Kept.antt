@@ -2,7 +2,7 @@
 use Prim.Native.Nat.{ℕ, zero, suc, _+_, _*_, _%_, _≤_, _<_}
 use mathlib.Core.Bool.{Bool, true, false}
 use mathlib.Core.List.{List}
-use mathlib.Core.Logic.{_⊎_, inl, inr}
+use mathlib.Core.Logic.{inl, inr}
 use mathlib.Core.Path.{_≡_, refl, _∙_}
 use lib.ListN.{length, getD}
 use borrow.Author.Tests.{lt-ltb, ltb-true, eq-eqb, eqb-true}
@@ -17,7 +17,7 @@ use Rattle.plans.specs.Plan.{parentOf}
 use Rattle.plans.specs.declared.Parent.the-variants.{Supply}
 use Rattle.plans.specs.declared.Plan.{Plan}
 use Rattle.rules.specs.Fit.{Fit}
-use Rattle.dispatch.specs.View.{viewOf, bitOf, isLeaf, servedC, servedT}
+use Rattle.dispatch.specs.View.{viewOf, isLeaf, servedC, servedT}
 use Rattle.dispatch.specs.Slot.{slot}
 use Rattle.dispatch.specs.Run.{courseTo, courseBy, freshLeft}
 use Rattle.dispatch.specs.declared.Setting.{Setting}

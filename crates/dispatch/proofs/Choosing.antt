@@ -15,7 +15,7 @@ use Rattle.plans.specs.declared.Parent.{Parent}
 use Rattle.plans.specs.declared.Node.{Node}
 use Rattle.plans.specs.declared.Plan.{Plan}
 use Rattle.dispatch.specs.View.{View, bitOf, isLeaf, servedT, viewOf}
-use Rattle.dispatch.specs.Passed.{told}
+use Rattle.dispatch.specs.Words.{told}
 use Rattle.dispatch.specs.Choice.{Pick, nobody, just, picked, takes, eligible, prefer, consider, chooseTo, choose}
 use Rattle.dispatch.specs.declared.Choice.{Choice}
 use Rattle.dispatch.specs.declared.Choice.the-variants.{Nobody, Child}

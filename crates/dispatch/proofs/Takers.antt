@@ -23,7 +23,8 @@ use Rattle.dispatch.proofs.Choices.{eligible-under, none-choice, some-c
 use Rattle.dispatch.proofs.Passing.{nobody-is, leaf-passed, host-kept, host-fixed}
 use Rattle.dispatch.specs.View.{View, viewOf, bitOf, isLeaf}
 use Rattle.dispatch.specs.Choice.{takes, eligible}
-use Rattle.dispatch.specs.Passed.{isNobody, passedTo, passedOver, told, Tells, WithBits}
+use Rattle.dispatch.specs.Passed.{isNobody, passedTo, passedOver}
+use Rattle.dispatch.specs.Words.{told, Tells, WithBits}
 use Rattle.dispatch.specs.declared.Setting.{Setting}
 use Rattle.dispatch.specs.declared.Setting.the-variants.{Off, On}
 

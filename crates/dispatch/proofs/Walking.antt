@@ -19,7 +19,8 @@ use Rattle.dispatch.proofs.Counting.{node-place}
 use Rattle.dispatch.proofs.SlotsSame.{serve-same}
 use Rattle.dispatch.specs.View.{View, bitOf, isLeaf, viewOf}
 use Rattle.dispatch.specs.Choice.{picked, choose}
-use Rattle.dispatch.specs.Passed.{passedOver, told, Tells}
+use Rattle.dispatch.specs.Passed.{passedOver}
+use Rattle.dispatch.specs.Words.{told, Tells}
 use Rattle.dispatch.specs.declared.Choice.{Choice}
 use Rattle.dispatch.specs.declared.Choice.the-variants.{Nobody, Child}
 use Rattle.dispatch.specs.Slot.{WalkEnd, walkEnd, SlotEnd, slotEnd, refilled, charge, follow, walk, granting, serveCore, serveTo, slotStart, slot}

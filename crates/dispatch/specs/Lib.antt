@@ -1,6 +1,7 @@
 pub mod View
 pub mod Choice
 pub mod Passed
+pub mod Words
 pub mod Slot
 pub mod Run
 pub mod Reached

@@ -1,8 +1,7 @@
 -- Who is passed over in a slot, told by the counts after its refill: document 01, "Giving out slots", and document 02, request 12. Assumes nothing.
-use Prim.Native.Nat.{ℕ, zero, suc, _<_}
-use mathlib.Core.Bool.{Bool, true, false, not, cond, _&&_, _||_}
+use Prim.Native.Nat.{ℕ, zero, suc}
+use mathlib.Core.Bool.{Bool, true, false, cond, _&&_}
 use mathlib.Core.List.{List}
-use mathlib.Core.Path.{_≡_}
 use Rattle.plans.specs.declared.Parent.the-variants.{Node as Under}
 use Rattle.dispatch.specs.View.{View, bitOf}
 use Rattle.dispatch.specs.Choice.{Pick, nobody, just, choose}
@@ -27,16 +26,3 @@ levelsDown On = 8
 -- 02, request 12: "Under a switch, the choice goes to the next sibling instead, and hosts passed in vain are not charged": whether node i is passed over
 unfoldable pub passedOver : Setting → View → List ℕ → ℕ → ℕ → Bool
 passedOver setting v left declines = passedTo v left declines (levelsDown setting)
-
--- Two words tell who is passed over: a leaf by its bit in the decline word, a host where its bit is not among those of the hosts under which somebody takes the
--- slot.
-unfoldable pub told : View → ℕ → ℕ → ℕ → Bool
-told v declines takers i = cond (v .leaf i) (bitOf declines i) (not (bitOf takers i))
-
--- and tell it rightly for every node that is there
-abbrev pub Tells : Setting → View → List ℕ → ℕ → ℕ → Type 0
-Tells setting v left declines takers = (i : ℕ) → i < v .size → told v declines takers i ≡ passedOver setting v left declines i
-
--- a word with the bits of another, and more
-abbrev pub WithBits : ℕ → (ℕ → Bool) → ℕ → Type 0
-WithBits word more r = (h : ℕ) → h < 64 → bitOf r h ≡ (bitOf word h || more h)

@@ -7,7 +7,7 @@ ghost use Rattle.plans.specs.Sound.{sound};
 ghost use Rattle.plans.specs.declared.Parent.the-variants.{Node as Under};
 ghost use Rattle.dispatch.specs.View.{viewOf};
 ghost use Rattle.dispatch.specs.Choice.{eligible};
-ghost use Rattle.dispatch.specs.Passed.{told, Tells, WithBits};
+ghost use Rattle.dispatch.specs.Words.{told, Tells, WithBits};
 ghost use Rattle.dispatch.specs.declared.Setting.the-variants.{On};
 use crate::Setting;
 use plans::Parent;

@@ -3,7 +3,7 @@ ghost use mathlib.Core.Path.{_≡_};
 ghost use Prim.Native.Nat.{_<_, _≤_};
 ghost use Rattle.dispatch.specs.View.{bitOf, servedT, viewOf};
 ghost use Rattle.dispatch.specs.Choice.{picked, choose, consider, eligible, prefer, takes as takesBy};
-ghost use Rattle.dispatch.specs.Passed.{told};
+ghost use Rattle.dispatch.specs.Words.{told};
 use crate::Choice;
 use plans::Parent;
 use plans::Plan;

@@ -4,7 +4,7 @@ ghost use mathlib.Core.Bool.{true};
 ghost use Prim.Native.Nat.{_<_};
 ghost use Rattle.plans.specs.Sound.{sound};
 ghost use Rattle.dispatch.specs.View.{viewOf};
-ghost use Rattle.dispatch.specs.Passed.{told};
+ghost use Rattle.dispatch.specs.Words.{told};
 ghost use Rattle.dispatch.specs.Slot.{walkEnd, slotEnd, walk, serveCore, slot};
 use crate::Choice;
 use crate::Served;

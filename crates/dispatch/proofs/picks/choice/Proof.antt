@@ -5,7 +5,7 @@ use borrow.Author.Needs.{needs}
 use Rattle.dispatch.proofs.Choosing.{choose-none, choose-more, choose-done}
 use Rattle.dispatch.specs.View.{viewOf}
 use Rattle.dispatch.specs.Choice.{picked, chooseTo}
-use Rattle.dispatch.specs.Passed.{told}
+use Rattle.dispatch.specs.Words.{told}
 use Rattle.dispatch.proofs.picks.choice.Statement.{statement}
 use Rattle.dispatch.proofs.picks.choice.Tie as tie
 

@@ -5,7 +5,7 @@ use borrow.Author.Needs.{needs}
 use Rattle.dispatch.proofs.Counting.{core-place}
 use Rattle.dispatch.proofs.Walking.{serve-none, serve-more, serve-done}
 use Rattle.dispatch.specs.View.{viewOf}
-use Rattle.dispatch.specs.Passed.{told}
+use Rattle.dispatch.specs.Words.{told}
 use Rattle.dispatch.specs.Slot.{slotEnd, serveTo}
 use Rattle.dispatch.proofs.walks.serve.Statement.{statement}
 use Rattle.dispatch.proofs.walks.serve.Tie as tie

@@ -105,6 +105,7 @@ static void refused_runs(uint64_t rounds)
     for (uint64_t round = 0; round < rounds; round++) {
         sound_value(plan, 12);
         odd_state(plan, state);
+        uint32_t nodes = plan[19]; /* as many as there are, whatever is done to the plan below */
         size_t slots = chance_below(30), declines, room = slots * plan[2];
         inputs_by_chance(&inputs, plan, slots);
         uint8_t setting = inputs.settings[0];
@@ -115,7 +116,7 @@ static void refused_runs(uint64_t rounds)
             case 0: state[0] = LAST - chance_below(30); break;
             case 1: state[0] = chance(50) ? LAST + 1 + chance_below(3) : chance_bits(); break;
             case 2: state[1 + at] = 65535 + chance_below(3); break;
-            case 3: state[1 + chance_below(plan[19])] += 1; break;
+            case 3: state[1 + chance_below(nodes)] += 1; break;
             case 4: state[1 + at] = chance_bits(); break;
             case 5: declines = slots + 1 - 2 * (slots > 0 && chance(50)); break;
             case 6: room = room > 0 && chance(70) ? room - 1 : chance_below(room + 1); break;

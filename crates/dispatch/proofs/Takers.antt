@@ -147,7 +147,8 @@ host-place plan keeps i l n read host up at is =
     let earlier = host-earlier plan so i l host (sym (ap (λ m. m .parent) read) ∙ up) in
     omega (arith, so .sixty-four-nodes)
 
-zero-bit : (h : ℕ) → bitOf 0 h ≡ false
+-- a word of zeros has no bit
+pub zero-bit : (h : ℕ) → bitOf 0 h ≡ false
 unfolding bitOf
 zero-bit h = rw (zero-div (2 ^ h))
 

@@ -49,6 +49,7 @@ use Rattle.guarantee.specs.Needed.{
   Basis,
   Meets,
   always,
+  bus,
   logServed,
   doorServed,
   duo,
@@ -66,7 +67,7 @@ use Rattle.guarantee.specs.Needed.{
   OffMultiple,
 }
 use Rattle.guarantee.specs.Whole.{customer, shorter, hosted, WholeServed, NewlyAccepted, NotQuiteWhole, OverfullByOne}
-use Rattle.guarantee.specs.Switch.{doorGains, SiblingGains, VainUncharged, four, fourOff, fourOn, fourMixed, BothServed, NotEveryGrant}
+use Rattle.guarantee.specs.Switch.{doorGains, SiblingGains, VainUncharged, doorMixed, MixedServed, fourOff, fourOn, BothServed, NotEveryGrant}
 
 -- every core's bit is set in 255
 core-always : (s : ℕ) → s < 8 → (n : ℕ) → slotsOf always s n ≡ true
@@ -180,7 +181,7 @@ served c setting out set ends holds seen kept full accepts window inside =
 
 -- every case is computed
 computed : NotEmpty × BoundsReached × ShortSupply × DeclinedOnce × OutsideRun × OffMultiple × WholeServed × NotQuiteWhole × OverfullByOne × SiblingGains ×
-    VainUncharged × BothServed × NotEveryGrant
+    VainUncharged × BothServed × NotEveryGrant × MixedServed
 unfolding
     inRange isFit ones lowest wellFormed written judged step turns onesFrom onesAt leastOnes placed accepts first test each
     nodeAt supplyAt hosting isHost wantedAs ownType same isChild all allows parentAllowed upTo within soundNode soundSupply counts sound
@@ -252,15 +253,15 @@ computed = (
   (
     served fourOff Off (replicate 4 9) refl refl refl refl refl refl refl (0, refl) (omega arith),
     served fourOn On (replicate 4 9) refl refl refl refl refl refl refl (0, refl) (omega arith),
-    record {
-      basis = basis fourMixed (record { state = _; answers = _; beyond = []; reached = mixed; holds = refl }) refl;
-      supplied = always-keeps fourMixed refl refl;
-      window = (0, refl);
-      inside = omega arith;
-      nowhere = accepting fourMixed refl;
-    },
   ),
   (refl, refl),
+  record {
+    basis = basis doorMixed (record { state = _; answers = _; beyond = []; reached = mixed; holds = refl }) refl;
+    supplied = always-keeps doorMixed refl refl;
+    window = tt;
+    inside = omega arith;
+    nowhere = accepting doorMixed refl;
+  },
 )
   where
     -- a run of one, a step, and a run of two
@@ -268,9 +269,11 @@ computed = (
     three =
         by-run (by-step (by-run (at-start refl) Off (1 ∷ []) (0 ∷ []) (replicate 2 9) refl) Off 3 0 refl) Off (1 ∷ 3 ∷ []) (0 ∷ 0 ∷ []) (replicate 4 9) refl
 
-    -- a step with the switch on, a step with it off, and a run with it on
-    mixed : Reached four (record { clock = 4; left = replicate 64 0 }) (On ∷ Off ∷ On ∷ On ∷ []) (replicate 4 255) (2 ∷ 4 ∷ 0 ∷ 0 ∷ []) (2 ∷ 1 ∷ 3 ∷ 254 ∷ [])
-    mixed = by-run (by-step (by-step (at-start refl) On 255 2 refl) Off 255 4 refl) On (255 ∷ 255 ∷ []) (0 ∷ 0 ∷ []) (replicate 2 9) refl
+    -- a step with the switch off and one with it on, five times
+    mixed : Reached bus (record { clock = 10; left = 1 ∷ 1 ∷ 1 ∷ replicate 61 0 }) (doorMixed .settings) (replicate 10 255) (replicate 10 2) (doorMixed .buffer)
+    mixed =
+        by-step (by-step (by-step (by-step (by-step (by-step (by-step (by-step (by-step (by-step (at-start refl)
+        Off 255 2 refl) On 255 2 refl) Off 255 2 refl) On 255 2 refl) Off 255 2 refl) On 255 2 refl) Off 255 2 refl) On 255 2 refl) Off 255 2 refl) On 255 2 refl
 
 -- demand 3 is not empty
 pub not-empty : NotEmpty
@@ -325,10 +328,14 @@ sibling-gains = computed .9
 pub vain-uncharged : VainUncharged
 vain-uncharged = computed .10
 
--- under both settings, and under a mixture, a partition receives what it asked for
+-- under both settings a partition receives what it asked for
 pub both-served : BothServed
 both-served = computed .11
 
 -- though not every grant stays
 pub not-every-grant : NotEveryGrant
 not-every-grant = computed .12
+
+-- and so it does where each call has a setting of its own, with slots that neither setting alone gives
+pub mixed-served : MixedServed
+mixed-served = computed .13

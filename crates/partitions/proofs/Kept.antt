@@ -1,9 +1,8 @@
 -- What specs/Promises.antt says of demand 3, for a plan value that fits, holds. Assumes nothing.
-use Prim.Native.Nat.{ℕ, _+_, _*_, _/_, _^_, _≤_, _<_}
+use Prim.Native.Nat.{ℕ, _+_, _*_, _/_, _≤_, _<_}
 use mathlib.Core.Bool.{Bool, true, false, _||_}
 use mathlib.Core.List.{List}
 use mathlib.Core.Path.{_≡_, refl, sym, _∙_}
-use native.Mathlib.Nat.{zero-div}
 use native.Mathlib.Decide.{decLe}
 use native.Mathlib.Omega.{arith}
 use lib.ListN.{length, getD, take, drop, take-append-drop, List·getD-eq-default}
@@ -25,6 +24,7 @@ use Rattle.dispatch.specs.declared.Setting.{Setting}
 use Rattle.dispatch.specs.declared.Setting.the-variants.{Off}
 use Rattle.dispatch.proofs.Passing.{host-kept}
 use Rattle.dispatch.proofs.Refusals.{done-tests}
+use Rattle.dispatch.proofs.Takers.{zero-bit}
 use Rattle.unending.specs.Unending.{passedAt, charged, may}
 use Rattle.unending.proofs.Slots.{startAt}
 use Rattle.unending.proofs.Kept.{granted-exactly, balance-after}
@@ -41,18 +41,13 @@ or-none : (a : Bool) → (a || false) ≡ a
 or-none true = refl
 or-none false = refl
 
--- nobody declines in a word of zeros
-none-declines : (i : ℕ) → bitOf 0 i ≡ false
-unfolding bitOf
-none-declines i = rw (zero-div (2 ^ i))
-
 -- a partition that declines nowhere in the run declines in no slot of its served periods that touch the window
 declines-nowhere : (c : Case) → DeclinesNowhere c → (x y : ℕ) → c .window ≤ y → y < c .window + period c →
     x / servedOf (c .plan) (c .partition) .t ≡ y / servedOf (c .plan) (c .partition) .t → bitOf (listed (c .declines) x) (c .partition) ≡ false
 declines-nowhere c nowhere x y l m e = go (decLe (length (c .declines)) x)
   where
     go : Dec (length (c .declines) ≤ x) → bitOf (listed (c .declines) x) (c .partition) ≡ false
-    go (yes past) = rw (List·getD-eq-default (c .declines) 0 past) (none-declines (c .partition))
+    go (yes past) = rw (List·getD-eq-default (c .declines) 0 past) (zero-bit (c .partition))
     go (no inside) = nowhere x y (omega arith) l m e
 
 module _ (c : Case) (fit : Fit (c .plan)) (fresh : FromFresh c) (is : IsPartition c) where

@@ -1,5 +1,6 @@
 pub mod Allocation
 pub mod Least
 pub mod Types
+pub mod Soft
 pub mod Written
 pub mod Promises

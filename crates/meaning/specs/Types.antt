@@ -13,9 +13,13 @@ infix 60 _of_
 abbrev pub _of_ : ℕ → ℕ → SlotType
 C of T = record { c = C; t = T }
 
+-- t is from 1 to `most`, and c at most t
+abbrev pub ranged : ℕ → ℕ → ℕ → Bool
+ranged c t most = leb 1 t && (leb t most && leb c t)
+
 -- 01: "1 ≤ T ≤ 4,096, 0 ≤ C ≤ T"
 unfoldable pub wellFormed : SlotType → Bool
-wellFormed a = leb 1 (a .t) && (leb (a .t) 4096 && leb (a .c) (a .t))
+wellFormed a = ranged (a .c) (a .t) 4096
 
 -- 01: a window of a kind with period T starts "at a multiple of T" where it is aligned, and anywhere where it is sliding
 abbrev pub Starts : Kind → ℕ → ℕ → Type 0

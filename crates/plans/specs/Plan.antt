@@ -1,10 +1,11 @@
--- The plan value and how its entries are read: document 01, "The plan file". What stands above reads a plan by these names alone. Assumes nothing.
+-- The plan value and how its entries are read: document 01, "The plan file", and document 02, request 6. What stands above reads a plan by these names alone. Assumes nothing.
 use Prim.Native.Nat.{ℕ, _≤_, _<_}
-use mathlib.Core.Bool.{Bool, true, false, cond}
+use mathlib.Core.Bool.{Bool, true, false, not, cond, _&&_}
 use mathlib.Core.Path.{_≡_}
 use lib.Dec.{ltb, eqb}
 use lib.ListN.{length, getD, replicate}
 use Rattle.meaning.specs.declared.SlotType.{SlotType}
+use Rattle.meaning.specs.declared.Misses.{Misses}
 use Rattle.meaning.specs.declared.Kind.{Kind}
 use Rattle.meaning.specs.declared.Kind.the-variants.{Aligned, Sliding}
 use Rattle.plans.specs.declared.NodeKind.{NodeKind}
@@ -18,12 +19,16 @@ use Rattle.plans.specs.declared.Plan.{Plan}
 abbrev pub zeroType : SlotType
 zeroType = record { c = 0; t = 0 }
 
+abbrev pub zeroMisses : Misses
+zeroMisses = record { d = 0; w = 0 }
+
 abbrev pub zeroNode : Node
-zeroNode = record { kind = AlignedLeaf; parent = Supply 0; wanted = zeroType; served = zeroType }
+zeroNode = record { kind = AlignedLeaf; parent = Supply 0; wanted = zeroType; misses = zeroMisses; served = zeroType }
 
 unfoldable pub zeroPlan : Plan
 zeroPlan =
     record {
+      edition = 0;
       tick = record { p = 0; q = 0 };
       cores = 0;
       supplies = replicate 8 zeroType;
@@ -52,6 +57,9 @@ kindOf plan i = nodeAt plan i .kind
 abbrev pub wantedOf : Plan → ℕ → SlotType
 wantedOf plan i = nodeAt plan i .wanted
 
+abbrev pub missesOf : Plan → ℕ → Misses
+missesOf plan i = nodeAt plan i .misses
+
 abbrev pub servedOf : Plan → ℕ → SlotType
 servedOf plan i = nodeAt plan i .served
 
@@ -62,6 +70,14 @@ hosting Host = true
 
 unfoldable pub isHost : Plan → ℕ → Bool
 isHost plan i = hosting (kindOf plan i)
+
+-- 02: "Leaves with D = 0 and all hosts are treated as hard": a soft node is a leaf with D above 0
+unfoldable pub isSoft : Plan → ℕ → Bool
+isSoft plan i = not (isHost plan i) && ltb 0 (missesOf plan i .d)
+
+-- 02: "An edition 1 node has D 0 and W 1"
+abbrev pub noMisses : Misses
+noMisses = record { d = 0; w = 1 }
 
 -- 01: "kind (0 aligned leaf, 1 sliding leaf, 2 virtual host)"; "A host's wanted type is aligned"
 unfoldable pub wantedAs : NodeKind → Kind

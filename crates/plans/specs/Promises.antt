@@ -8,12 +8,13 @@ use Rattle.plans.specs.Sound.{Sound, sound}
 use Rattle.plans.specs.Cores.{OnCore, coreOf}
 use Rattle.plans.specs.declared.Plan.{Plan}
 
--- The test says yes exactly when the value keeps 2 to 7.
+-- The test says yes exactly when the value keeps 2 to 7 and 19.
 abbrev pub SoundExactly : Type 0
 SoundExactly = (plan : Plan) → (sound plan ≡ true) ↔ Sound plan
 
 -- two values that agree in everything but unused entries
 pub record Agree (a b : Plan) : Type 0 where
+  pub edition : a .edition ≡ b .edition
   pub tick : a .tick ≡ b .tick
   pub cores : a .cores ≡ b .cores
   pub size : a .size ≡ b .size

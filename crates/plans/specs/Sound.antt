@@ -1,12 +1,16 @@
--- Refusals 2 to 7 on a plan value: document 01, "The plan file" and "Refusal numbers". `Sound` says them as sentences; `sound` is the test that
--- the code is held to, and Promises says that the two agree. Assumes nothing.
+-- Refusals 2 to 7 and 19 on a plan value, and its edition: document 01, "The plan file" and "Refusal numbers", and document 02, request 6. `Sound` says them
+-- as sentences; `sound` is the test that the code is held to, and Promises says that the two agree. Assumes nothing.
 use Prim.Native.Nat.{ℕ, zero, suc, _≤_, _<_}
-use mathlib.Core.Bool.{Bool, true, false, _&&_}
+use mathlib.Core.Bool.{Bool, true, false, not, _&&_, _||_}
+use mathlib.Core.Logic.{_⊎_}
 use mathlib.Core.Path.{_≡_}
-use lib.Dec.{leb, ltb}
+use lib.Dec.{leb, ltb, eqb}
 use Rattle.ticks.specs.Times.{isFit}
 use Rattle.meaning.specs.Types.{wellFormed}
-use Rattle.plans.specs.Plan.{There, supplyAt, parentOf, wantedOf, servedOf, isHost}
+use Rattle.meaning.specs.Soft.{withinRange}
+use Rattle.meaning.specs.declared.Misses.{Misses}
+use Rattle.plans.specs.Plan.{There, supplyAt, parentOf, kindOf, wantedOf, missesOf, servedOf, hosting, isHost, noMisses}
+use Rattle.plans.specs.declared.NodeKind.{NodeKind}
 use Rattle.plans.specs.declared.Parent.{Parent}
 use Rattle.plans.specs.declared.Parent.the-variants.{Supply, Node as Under}
 use Rattle.plans.specs.declared.Plan.{Plan}
@@ -21,8 +25,9 @@ pub data Depth (plan : Plan) : ℕ → ℕ → Type 0 where
   top : {i s : ℕ} → parentOf plan i ≡ Supply s → Depth plan i 1
   under : {i h d : ℕ} → parentOf plan i ≡ Under h → Depth plan h d → Depth plan i (suc d)
 
--- a value that keeps 2 to 7
+-- a value that keeps 2 to 7 and 19, of an edition that there is. 02: "19 for bad D, W or a host with D above 0"; "An edition 1 node has D 0 and W 1, else 19"
 pub record Sound (plan : Plan) : Type 0 where
+  pub edition : (plan .edition ≡ 1) ⊎ (plan .edition ≡ 2)
   pub some-core : 1 ≤ plan .cores
   pub eight-cores : plan .cores ≤ 8
   pub some-node : 1 ≤ plan .size
@@ -30,6 +35,9 @@ pub record Sound (plan : Plan) : Type 0 where
   pub tick : isFit (plan .tick) ≡ true
   pub supplies : (s : ℕ) → s < plan .cores → wellFormed (supplyAt plan s) ≡ true
   pub wanted : (i : ℕ) → There plan i → wellFormed (wantedOf plan i) ≡ true
+  pub misses : (i : ℕ) → There plan i → withinRange (missesOf plan i) ≡ true
+  pub hosts-hard : (i : ℕ) → There plan i → isHost plan i ≡ true → missesOf plan i .d ≡ 0
+  pub first-edition : plan .edition ≡ 1 → (i : ℕ) → There plan i → missesOf plan i ≡ noMisses
   pub served : (i : ℕ) → There plan i → wellFormed (servedOf plan i) ≡ true
   pub parents : (i : ℕ) → There plan i → Allowed plan i (parentOf plan i)
   pub depths : (i d : ℕ) → There plan i → Depth plan i d → d ≤ 8
@@ -56,8 +64,21 @@ unfoldable pub within : Plan → ℕ → ℕ → Bool
 within plan zero i = false
 within plan (suc k) i = upTo (within plan k) (parentOf plan i)
 
+-- whether a node of this kind can have these misses
+unfoldable pub borne : NodeKind → Misses → Bool
+borne kind m = withinRange m && (not (hosting kind) || eqb (m .d) 0)
+
+-- and whether a node of this edition can
+unfoldable pub plain : ℕ → Misses → Bool
+plain edition m = not (eqb edition 1) || (eqb (m .d) 0 && eqb (m .w) 1)
+
+unfoldable pub soundMisses : Plan → ℕ → Bool
+soundMisses plan i = borne (kindOf plan i) (missesOf plan i) && plain (plan .edition) (missesOf plan i)
+
 unfoldable pub soundNode : Plan → ℕ → Bool
-soundNode plan i = parentAllowed plan i && (within plan 8 i && (wellFormed (wantedOf plan i) && wellFormed (servedOf plan i)))
+soundNode plan i =
+    parentAllowed plan i &&
+    (within plan 8 i && (wellFormed (wantedOf plan i) && (soundMisses plan i && wellFormed (servedOf plan i))))
 
 unfoldable pub soundSupply : Plan → ℕ → Bool
 soundSupply plan s = wellFormed (supplyAt plan s)
@@ -66,9 +87,14 @@ soundSupply plan s = wellFormed (supplyAt plan s)
 unfoldable pub counts : ℕ → ℕ → Bool
 counts n most = leb 1 n && leb n most
 
--- whether a value keeps 2 to 7
+-- 02: a plan file is of edition 1 or of edition 2
+unfoldable pub isEdition : ℕ → Bool
+isEdition n = eqb n 1 || eqb n 2
+
+-- whether a value keeps 2 to 7 and 19
 unfoldable pub sound : Plan → Bool
 sound plan =
-    counts (plan .cores) 8 &&
+    isEdition (plan .edition) &&
+    (counts (plan .cores) 8 &&
     (counts (plan .size) 64 &&
-    (isFit (plan .tick) && (all (soundSupply plan) (plan .cores) && all (soundNode plan) (plan .size))))
+    (isFit (plan .tick) && (all (soundSupply plan) (plan .cores) && all (soundNode plan) (plan .size)))))

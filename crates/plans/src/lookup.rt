@@ -1,11 +1,12 @@
 // The entries of a plan value, and what a node's entry says.
 ghost use mathlib.Core.Path.{_≡_};
-ghost use Rattle.plans.specs.Plan.{nodeAt, supplyAt, wantedAs, isHost, ownType};
+ghost use Rattle.plans.specs.Plan.{nodeAt, supplyAt, wantedAs, isHost, isSoft, ownType};
 use crate::Node;
 use crate::NodeKind;
 use crate::Parent;
 use crate::Plan;
 use meaning::Kind;
+use meaning::Misses;
 use meaning::SlotType;
 
 // Node i, or one of zeros past the array's end.
@@ -20,6 +21,7 @@ pub fn node_at(plan: Plan, i: usize) -> Node
         kind: NodeKind::AlignedLeaf,
         parent: Parent::Supply(0),
         wanted: none,
+        misses: Misses { d: 0, w: 0 },
         served: none,
     }
 }
@@ -44,6 +46,13 @@ pub fn is_host(plan: Plan, i: usize) -> bool
         NodeKind::AlignedLeaf => false,
         NodeKind::SlidingLeaf => false,
     }
+}
+
+// Whether node i is soft: a leaf that may miss some of its windows.
+pub fn is_soft(plan: Plan, i: usize) -> bool
+    ensures { λ r. ⌜ r ≡ isSoft plan i ⌝ }
+{
+    basics::both(!is_host(plan, i), 0 < node_at(plan, i).misses.d)
 }
 
 // As which kind a node's wanted type is meant: a sliding leaf's slides, and a host's is aligned.

@@ -1,15 +1,20 @@
-// Whether a value keeps 2 to 7.
+// Whether a value keeps 2 to 7 and 19.
 ghost use mathlib.Core.Path.{_≡_};
-ghost use Rattle.plans.specs.Sound.{all, counts, soundSupply, soundNode, sound};
+ghost use Rattle.plans.specs.Sound.{all, counts, isEdition, borne, plain, soundMisses, soundSupply, soundNode, sound};
+use crate::NodeKind;
 use crate::Plan;
 use crate::lookup::node_at;
 use crate::lookup::supply_at;
 use crate::tree::is_parent_allowed;
 use crate::tree::is_within;
+use meaning::Misses;
 
 pub fn is_sound(plan: Plan) -> bool
     ensures { λ r. ⌜ r ≡ sound plan ⌝ }
 {
+    if !is_edition(plan.edition) {
+        return false;
+    }
     if !is_count(plan.cores, 8) {
         return false;
     }
@@ -23,6 +28,13 @@ pub fn is_sound(plan: Plan) -> bool
         return false;
     }
     are_nodes_sound(plan)
+}
+
+// Whether an edition is one that there is.
+fn is_edition(n: u8) -> bool
+    ensures { λ r. ⌜ r ≡ isEdition n ⌝ }
+{
+    if n == 1 { true } else { n == 2 }
 }
 
 // Whether a count is from 1 to `most`.
@@ -68,6 +80,41 @@ fn is_node_sound(plan: Plan, i: usize) -> bool
     let served = meaning::is_well_formed(node.served);
     basics::both(
         is_parent_allowed(plan, i),
-        basics::both(is_within(plan, i), basics::both(wanted, served)),
+        basics::both(
+            is_within(plan, i),
+            basics::both(wanted, basics::both(are_misses_sound(plan, i), served)),
+        ),
     )
+}
+
+fn are_misses_sound(plan: Plan, i: usize) -> bool
+    ensures { λ r. ⌜ r ≡ soundMisses plan i ⌝ }
+{
+    let node = node_at(plan, i);
+    let kind = node.kind;
+    basics::both(are_misses_borne(kind, node.misses), is_plain(plan.edition, node.misses))
+}
+
+// Whether a node of this kind can have these misses: D and W in range, and none for a host.
+pub fn are_misses_borne(kind: NodeKind, m: Misses) -> bool
+    ensures { λ r. ⌜ r ≡ borne kind m ⌝ }
+{
+    if !meaning::is_within_range(m) {
+        return false;
+    }
+    match kind {
+        NodeKind::Host => m.d == 0,
+        NodeKind::AlignedLeaf => true,
+        NodeKind::SlidingLeaf => true,
+    }
+}
+
+// Whether a node of this edition can have these misses: in edition 1, D 0 and W 1.
+fn is_plain(edition: u8, m: Misses) -> bool
+    ensures { λ r. ⌜ r ≡ plain edition m ⌝ }
+{
+    if edition != 1 {
+        return true;
+    }
+    basics::both(m.d == 0, m.w == 1)
 }

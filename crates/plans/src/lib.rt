@@ -9,8 +9,8 @@ mod soundness;
 mod tree;
 
 pub use lookup::is_host;
-pub use lookup::node_at;
 pub use lookup::is_soft;
+pub use lookup::node_at;
 pub use lookup::own_type;
 pub use lookup::supply_at;
 pub use lookup::wanted_as;

@@ -92,7 +92,10 @@ fn are_misses_sound(plan: Plan, i: usize) -> bool
 {
     let node = node_at(plan, i);
     let kind = node.kind;
-    basics::both(are_misses_borne(kind, node.misses), is_plain(plan.edition, node.misses))
+    basics::both(
+        are_misses_borne(kind, node.misses),
+        is_plain(plan.edition, node.misses),
+    )
 }
 
 // Whether a node of this kind can have these misses: D and W in range, and none for a host.

@@ -19,6 +19,9 @@ is-parent-allowed-requires c κs = search needs
 is-within-requires : tie.Need-is-within-requires
 is-within-requires c κs = search needs
 
+are-misses-sound-requires : tie.Need-are-misses-sound-requires
+are-misses-sound-requires c κs = search needs
+
 both-requires : tie.Need-both-requires
 both-requires c κs = search needs
 
@@ -27,6 +30,9 @@ both-requires-2 c κs = search needs
 
 both-requires-3 : tie.Need-both-requires-3
 both-requires-3 c κs = search needs
+
+both-requires-4 : tie.Need-both-requires-4
+both-requires-4 c κs = search needs
 
 returns : tie.Need-returns
 returns c = search node-sound
@@ -40,7 +46,9 @@ is-node-sound-spec =
     is-well-formed-requires-2
     is-parent-allowed-requires
     is-within-requires
+    are-misses-sound-requires
     both-requires
     both-requires-2
     both-requires-3
+    both-requires-4
     returns)

@@ -2,7 +2,7 @@
 use Prim.Native.Nat.{ℕ, _≤_, _<_}
 use mathlib.Core.Bool.{Bool, true, false, cond, false≢true}
 use mathlib.Core.List.{List}
-use mathlib.Core.Logic.{_↔_}
+use mathlib.Core.Logic.{_↔_, _⊎_, inl, inr}
 use mathlib.Core.Path.{_≡_, refl, sym, ap, ap₂, subst, _∙_}
 use native.Mathlib.Omega.{arith}
 use Rattle.answers.specs.Answers.{none as placeless, at, nowhere, refused, said, accepts}
@@ -12,7 +12,7 @@ use Rattle.plans.specs.Sound.{Sound, sound}
 use Rattle.plans.specs.declared.Plan.{Plan}
 use Rattle.plans.proofs.Kept.{sound-exactly}
 use Rattle.rules.specs.Fit.{Fit}
-use Rattle.rules.specs.Broken.{Breach, eleven, twelve, thirteen, fourteen, number, place, Broken, rank, Earlier, FirstBroken, FirstBrokenAt}
+use Rattle.rules.specs.Broken.{Breach, twenty, eleven, twelve, thirteen, fourteen, number, place, Broken, rank, Earlier, FirstBroken, FirstBrokenAt}
 use Rattle.rules.specs.Check.{rules, checked, isFit}
 use Rattle.rules.specs.Promises.{FitsExactly, AcceptsFit, FirstExactly, SixteenExactly}
 use Rattle.rules.proofs.KeptOrder.{Refuses, NoneBefore, answer-accepted, accepted-none, answer-first, refused-first}
@@ -78,19 +78,20 @@ module _ (plan : Plan) (sound : Sound plan) where
         broken-refused b is ∙ ap₂ Refused numbered placed,
   )
 
-  -- by 11 to 14, at a node,
-  pub broken-range : (r k : ℕ) → FirstBrokenAt plan r k → (11 ≤ r) × (r ≤ 14) × (k < 64)
+  -- by 11 to 14 or 20, at a node,
+  pub broken-range : (r k : ℕ) → FirstBrokenAt plan r k → (((11 ≤ r) × (r ≤ 14)) ⊎ (r ≡ 20)) × (k < 64)
   broken-range r k (b, is, numbered, placed) = go b numbered (omega (arith, broken-there plan b (is .broken), sound .sixty-four-nodes))
     where
-      go : (c : Breach) → number c ≡ r → k < 64 → (11 ≤ r) × (r ≤ 14) × (k < 64)
-      go (eleven i) e l = (omega arith, omega arith, l)
-      go (twelve x i) e l = (omega arith, omega arith, l)
-      go (thirteen x i) e l = (omega arith, omega arith, l)
-      go (fourteen x i) e l = (omega arith, omega arith, l)
+      go : (c : Breach) → number c ≡ r → k < 64 → (((11 ≤ r) × (r ≤ 14)) ⊎ (r ≡ 20)) × (k < 64)
+      go (twenty i) e l = (inr (sym e), l)
+      go (eleven i) e l = (inl (omega arith, omega arith), l)
+      go (twelve x i) e l = (inl (omega arith, omega arith), l)
+      go (thirteen x i) e l = (inl (omega arith, omega arith), l)
+      go (fourteen x i) e l = (inl (omega arith, omega arith), l)
 
   -- which is a place
   pub broken-place : (r k : ℕ) → FirstBrokenAt plan r k → k < nowhere
-  broken-place r k h = omega (arith, broken-range r k h .2)
+  broken-place r k h = omega (arith, broken-range r k h .1)
 
 -- a value that the test takes fits
 fits-fit : (plan : Plan) → isFit plan ≡ true → Fit plan

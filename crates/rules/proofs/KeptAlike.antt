@@ -1,20 +1,21 @@
 -- A plan value has no breach that a sound one does not have which agrees with it in all but unused entries. Assumes nothing.
 use Prim.Native.Nat.{ℕ, zero, suc, _+_, _*_, _/_, _%_, _≤_, _<_, max}
-use mathlib.Core.Bool.{false, cond}
+use mathlib.Core.Bool.{true, false, not, cond, _&&_}
+use lib.Dec.{ltb}
 use mathlib.Core.Logic.{_⊎_}
 use mathlib.Core.Path.{_≡_, refl, sym, ap, ap₂, subst, subst₂, _∙_}
 use native.Mathlib.Omega.{arith}
-use Rattle.meaning.specs.Types.{StandsIn}
+use Rattle.meaning.specs.Soft.{StandsInSoft}
 use Rattle.meaning.specs.declared.Kind.the-variants.{Aligned}
-use Rattle.plans.specs.Plan.{wantedAs, ownType, same, isChild}
+use Rattle.plans.specs.Plan.{nodeAt, hosting, wantedAs, isHost, isSoft, ownType, same, isChild}
 use Rattle.plans.specs.Promises.{Agree}
 use Rattle.plans.specs.Sound.{Sound}
 use Rattle.plans.specs.declared.Parent.{Parent}
 use Rattle.plans.specs.declared.Parent.the-variants.{Supply, Node as Under}
 use Rattle.plans.specs.declared.Plan.{Plan}
 use Rattle.plans.proofs.Parents.{supply-there, host-there}
-use Rattle.rules.specs.Fit.{sumTo, mostTo, childPeriod, longest, load, loadTo, isWhole, owes, side, Child}
-use Rattle.rules.specs.Broken.{Breach, eleven, twelve, thirteen, fourteen, Broken}
+use Rattle.rules.specs.Fit.{sumTo, mostTo, childPeriod, longest, load, loadTo, isWhole, owes, side, Child, SoftMade, Rule20}
+use Rattle.rules.specs.Broken.{Breach, twenty, eleven, twelve, thirteen, fourteen, Broken}
 
 -- a fold over the first n values reads no others
 fold-ext : (op : ℕ → ℕ → ℕ) (fold : (ℕ → ℕ) → ℕ → ℕ) → ((f : ℕ → ℕ) → fold f zero ≡ 0) →
@@ -60,12 +61,25 @@ module _ (a b : Plan) (agree : Agree a b) (sound : Sound a) where
       sum-ext (load a x (longest a x)) (load b x (longest b x)) k
       (λ i h. ap₂ (λ n m. cond (same (n .parent) x) (n .served .c * (m / n .served .t)) 0) (agree .nodes i (omega arith)) (longest-alike x))
 
+  -- a node is so made in both
+  twenty-alike : (i : ℕ) → nodeAt a i ≡ nodeAt b i → Rule20 a i → Rule20 b i
+  unfolding isSoft isHost
+  twenty-alike i e made = subst (λ n. (not (hosting (n .kind)) && ltb 0 (n .misses .d)) ≡ true → SoftMade n) e made
+
+  twenty-back : (i : ℕ) → nodeAt a i ≡ nodeAt b i → Rule20 b i → Rule20 a i
+  unfolding isSoft isHost
+  twenty-back i e made = subst (λ n. (not (hosting (n .kind)) && ltb 0 (n .misses .d)) ≡ true → SoftMade n) (sym e) made
+
   -- a breach in the other is a breach in the one
   pub broken-alike : (e : Breach) → Broken b e → Broken a e
   unfolding side
+  broken-alike (twenty i) h =
+      let l : i < a .size = omega (arith, h .0, agree .size) in
+      (l, λ k. h .1 (twenty-alike i (agree .nodes i l) k))
   broken-alike (eleven i) h =
       let l : i < a .size = omega (arith, h .0, agree .size) in
-      (l, λ k. h .1 (subst (λ n. StandsIn Aligned (n .served) (wantedAs (n .kind)) (n .wanted)) (agree .nodes i l) k))
+      let e = agree .nodes i l in
+      (l, (twenty-back i e (h .1 .0), λ k. h .1 .1 (subst (λ n. StandsInSoft Aligned (n .served) (wantedAs (n .kind)) (n .wanted) (n .misses)) e k)))
   broken-alike (twelve x i) h =
       let c = child-alike x i (h .0) in
       (c, λ k. h .1 (subst₂ (λ n own. isWhole own ≡ false → n .served .t % own .t ≡ 0) (agree .nodes i (c .there)) (own-alike x i c) k))

@@ -1,7 +1,7 @@
--- Plans that kept rules 12 and 14 as document 01 has them keep them as they are now, and only whole parents made a difference. Assumes nothing.
+-- Plans that kept rules 11, 12 and 14 as document 01 has them keep them as they are now, and in edition 1 only whole parents made a difference. Assumes nothing.
 use Prim.Native.Nat.{ℕ, suc, _*_, _/_, _≤_}
-use mathlib.Core.Bool.{Bool, true, false, cond}
-use mathlib.Core.Path.{_≡_, refl, sym}
+use mathlib.Core.Bool.{Bool, true, false, cond, false≢true}
+use mathlib.Core.Path.{_≡_, refl, sym, _∙_}
 use native.Mathlib.Nat.{le-refl, le-trans, one-mul, div-one, mod-one, mul-div-le}
 use native.Mathlib.Omega.{arith}
 use borrow.Author.Tests.{eqb-true}
@@ -10,7 +10,8 @@ use Rattle.plans.specs.Plan.{servedOf, ownType}
 use Rattle.plans.specs.declared.Parent.{Parent}
 use Rattle.rules.specs.Fit.{longest, load, loadTo, isWhole, owes, side, Child}
 use Rattle.rules.specs.Before.{Rule12Before}
-use Rattle.rules.specs.Promises.{StaysFit, OnlyWholeMoved}
+use Rattle.rules.specs.Promises.{HardAsBefore, StaysFit, OnlyWholeMoved}
+use Rattle.rules.proofs.KeptSoft.{hard-eleven, first-hard}
 use Rattle.rules.proofs.Totals.{sum-grows}
 use Rattle.rules.proofs.KeptFit.{loads-by-child}
 
@@ -23,13 +24,18 @@ owes-more own m = go (isWhole own) refl
     go true e = rw (eqb-true (own .c) (own .t) e) (mul-div-le m (own .t))
     go false e = le-refl (own .c * (m / own .t))
 
+-- a hard node keeps rule 11 as document 01 has it
+pub hard-as-before : HardAsBefore
+hard-as-before plan fit i l hard = hard-eleven plan (fit .sound) i l hard .0 (fit .rule11 i l)
+
 -- plans accepted before stay accepted
 pub stays-fit : StaysFit
 unfolding side
 stays-fit plan before =
     record {
       sound = before .sound;
-      rule11 = before .rule11;
+      rule20 = λ i l soft. absurd (false≢true (sym (first-hard plan (before .sound) (before .edition) i l) ∙ soft));
+      rule11 = λ i l. hard-eleven plan (before .sound) i l (first-hard plan (before .sound) (before .edition) i l) .1 (before .rule11 i l);
       rule12 = λ x i c part. before .rule12 x i c;
       rule13 = before .rule13;
       rule14 = λ x. le-trans (before .rule14 x) (owes-more (ownType plan x) (longest plan x));
@@ -47,10 +53,11 @@ owes-same own m one = go (isWhole own) refl
 -- a plan that fits kept the rules of document 01 too, unless a parent is whole by a longer period
 pub only-whole-moved : OnlyWholeMoved
 unfolding loadTo side
-only-whole-moved plan one fit =
+only-whole-moved plan edition one fit =
     record {
+      edition = edition;
       sound = fit .sound;
-      rule11 = fit .rule11;
+      rule11 = λ i l. hard-as-before plan fit i l (first-hard plan (fit .sound) edition i l);
       rule12 = λ x i c. multiple x i c (isWhole (ownType plan x)) refl;
       rule13 = fit .rule13;
       rule14 = λ x. loads-by-child plan x _ (plan .size) (le-refl (plan .size)) (λ n c. at-child x n c);

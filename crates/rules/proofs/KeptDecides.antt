@@ -41,6 +41,27 @@ either-decides false t {A} {B} d h = record { right = λ e. inr (h .right e); wr
     neither e (inl a) = d .wrong refl a
     neither e (inr b) = h .wrong e b
 
+-- both of two things hold, or not
+pub both-decides : (s t : Bool) {A B : Type 0} → Decides s A (A → ⊥) → Decides t B (B → ⊥) → Decides (s && t) (A × B) (A × B → ⊥)
+both-decides true t d h = record { right = λ e. (d .right refl, h .right e); wrong = λ e g. h .wrong e (g .1); apart = λ g n. n g }
+both-decides false t d h = record { right = λ e. absurd (false≢true e); wrong = λ e g. d .wrong refl (g .0); apart = λ g n. n g }
+
+-- the good may be said in other words, where the bad is that it does not hold
+pub decides-same : {t : Bool} {good other : Type 0} → (good → other) → (other → good) → Decides t good (good → ⊥) → Decides t other (other → ⊥)
+decides-same out back d = record { right = λ e. out (d .right e); wrong = λ e g. d .wrong e (back g); apart = λ g n. n g }
+
+-- nothing is asked where a test fails, and elsewhere another decides
+pub if-decides : (s t : Bool) {A : Type 0} → Decides t A (A → ⊥) → Decides (not s || t) (s ≡ true → A) ((s ≡ true → A) → ⊥)
+if-decides true t d = record { right = λ e h. d .right e; wrong = λ e g. d .wrong e (g refl); apart = λ g n. n g }
+if-decides false t d = record { right = λ e h. absurd (false≢true h); wrong = λ e. absurd (true≢false e); apart = λ g n. n g }
+
+-- what is asked only where a condition holds: it fails where the condition holds and the thing asked does not
+pub where-decides : (s t : Bool) {A B : Type 0} → Decides s A (A → ⊥) → (A → Decides t B (B → ⊥)) → Decides (not s || t) (A → B) (A × (B → ⊥))
+where-decides true t d h =
+    let a = d .right refl in
+    record { right = λ e x. h a .right e; wrong = λ e. (a, h a .wrong e); apart = λ g n. n .1 (g (n .0)) }
+where-decides false t d h = record { right = λ e x. absurd (d .wrong refl x); wrong = λ e. absurd (true≢false e); apart = λ g n. n .1 (g (n .0)) }
+
 -- nothing is asked where an exception holds, and elsewhere the test decides
 pub unless-decides : (s t : Bool) {A : Type 0} → Decides t A (A → ⊥) → Decides (s || t) (s ≡ false → A) ((s ≡ false → A) → ⊥)
 unless-decides true t d = record { right = λ e h. absurd (true≢false h); wrong = λ e. absurd (true≢false e); apart = λ g n. n g }

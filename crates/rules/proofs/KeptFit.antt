@@ -12,7 +12,7 @@ use Rattle.plans.specs.declared.Parent.{Parent}
 use Rattle.plans.specs.declared.Plan.{Plan}
 use Rattle.plans.proofs.Entries.{parent-of-child}
 use Rattle.rules.specs.Fit.{sumTo, longest, load, loadTo, side, Child, Rule13, Fit}
-use Rattle.rules.specs.Broken.{Breach, eleven, twelve, thirteen, fourteen, place, Broken}
+use Rattle.rules.specs.Broken.{Breach, twenty, eleven, twelve, thirteen, fourteen, place, Broken}
 use Rattle.rules.proofs.Totals.{sum-grows}
 use Rattle.rules.proofs.KeptTests.{Kept, kept-unbroken, unbroken-kept}
 
@@ -20,7 +20,8 @@ module _ (plan : Plan) where
   -- a value that fits keeps every rule everywhere
   fit-kept : Fit plan → (b : Breach) → place b < plan .size → Kept plan b
   unfolding loadTo
-  fit-kept fit (eleven i) l = fit .rule11 i l
+  fit-kept fit (twenty i) l = fit .rule20 i l
+  fit-kept fit (eleven i) l = λ made. fit .rule11 i l
   fit-kept fit (twelve x i) l = fit .rule12 x i
   fit-kept fit (thirteen x i) l = λ c j h d. fit .rule13 x i j c d
   fit-kept fit (fourteen x i) l = λ c. omega (arith, fit .rule14 x, sum-grows (load plan x (longest plan x)) (suc i) (plan .size) l)
@@ -67,7 +68,8 @@ module _ (plan : Plan) where
     unbroken-fit =
         record {
           sound = sound;
-          rule11 = λ i l. kept (eleven i) l;
+          rule20 = λ i l. kept (twenty i) l;
+          rule11 = λ i l. kept (eleven i) l (kept (twenty i) l);
           rule12 = λ x i c. kept (twelve x i) (c .there) c;
           rule13 = kept-alike;
           rule14 = λ x. loads-by-child x (side plan x) (plan .size) (omega arith) (λ i c. kept (fourteen x i) (c .there) c);

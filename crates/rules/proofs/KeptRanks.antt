@@ -1,4 +1,4 @@
--- The check of rules 11 to 14 as a tree in which the test for each breach stands at the breach's rank. Assumes nothing.
+-- The check of rules 11 to 14 and 20 as a tree in which the test for each breach stands at the breach's rank. Assumes nothing.
 use Prim.Native.Nat.{ℕ, zero, suc, _<_}
 use mathlib.Core.Bool.{Bool, true, false, cond}
 use mathlib.Core.List.{List, [], _∷_}
@@ -17,8 +17,8 @@ use Rattle.plans.specs.declared.Parent.the-variants.{Supply, Node as Under}
 use Rattle.plans.specs.declared.Plan.{Plan}
 use Rattle.plans.proofs.Parents.{supply-there, host-there, host-hosts}
 use Rattle.rules.specs.Fit.{Child}
-use Rattle.rules.specs.Broken.{Breach, eleven, twelve, thirteen, fourteen, number, place, Broken, under, rank}
-use Rattle.rules.specs.Check.{elevenAt, twelveAt, thirteenAt, fourteenAt, rules, checkParent, checkSupply, checkHost}
+use Rattle.rules.specs.Broken.{Breach, twenty, eleven, twelve, thirteen, fourteen, number, place, Broken, under, rank}
+use Rattle.rules.specs.Check.{twentyAt, elevenAt, nodeAlone, twelveAt, thirteenAt, fourteenAt, rules, checkParent, checkSupply, checkHost}
 use Rattle.rules.proofs.KeptOrder.{Checks, one, many, answer, Refuses, accepted-none}
 use Rattle.rules.proofs.KeptTests.{tested, broken-tested}
 
@@ -39,9 +39,15 @@ module _ (plan : Plan) where
   abbrev ofParent : Parent → Checks
   ofParent x = many 15 (λ m. atRule m 12 (twelve x) (atRule m 13 (thirteen x) (atRule m 14 (fourteen x) nothing)))
 
-  -- rule 11 over all nodes; each supply; each host
+  -- 20, and then rule 11, at a node
+  abbrev alone : ℕ → ℕ → Checks
+  alone i zero = one (tested plan (twenty i))
+  alone i (suc zero) = one (tested plan (eleven i))
+  alone i (suc (suc m)) = nothing
+
+  -- each node alone; each supply; each host
   abbrev stage : ℕ → Checks
-  stage zero = many 1 (λ p. many 12 (λ m. atRule m 11 eleven nothing))
+  stage zero = many (plan .size) (λ i. many 2 (alone i))
   stage (suc zero) = many (plan .cores) (λ s. ofParent (Supply s))
   stage (suc (suc zero)) = many (plan .size) (λ h. cond (isHost plan h) (ofParent (Under h)) nothing)
   stage (suc (suc (suc g))) = nothing
@@ -72,10 +78,10 @@ module _ (plan : Plan) where
 
   -- the answer of the check is the first refusal of all tests
   pub rules-answer : rules plan ≡ answer (checks plan)
-  unfolding rules elevenAt checkSupply each first
+  unfolding rules nodeAlone twentyAt elevenAt checkSupply each first
   rules-answer =
-      first-three (each (elevenAt plan) (plan .size)) (each (checkSupply plan) (plan .cores)) (each (checkHost plan) (plan .size)) ∙
-      ap₂ (λ a b. first (first (each (elevenAt plan) (plan .size)) a) b)
+      first-three (each (nodeAlone plan) (plan .size)) (each (checkSupply plan) (plan .cores)) (each (checkHost plan) (plan .size)) ∙
+      ap₂ (λ a b. first (first (each (nodeAlone plan) (plan .size)) a) b)
       (each-ext (checkSupply plan) _ (plan .cores) (λ s l. parent-answer (Supply s)))
       (each-ext (checkHost plan) _ (plan .size) (λ h l. host-answer h))
 
@@ -128,10 +134,13 @@ module _ (plan : Plan) where
       (rule-leads whole m 13 (thirteen x) (ranks 13) (λ i. refl)
       (rule-leads whole m 14 (fourteen x) (ranks 14) (λ i. refl) nothing-leads)))
 
+  alone-leads : (i m : ℕ) → i < plan .size → Leads (λ l. 0 ∷ i ∷ m ∷ l) (alone plan i m)
+  alone-leads i zero l = one-leads (twenty i) l refl
+  alone-leads i (suc zero) l = one-leads (eleven i) l refl
+  alone-leads i (suc (suc m)) l = nothing-leads
+
   stage-leads : (g : ℕ) → Leads (λ l. g ∷ l) (stage plan g)
-  stage-leads zero =
-      many-leads (λ p l. many-leads (λ m h.
-      rule-leads (λ k. 0 ∷ p ∷ k) m 11 eleven (λ i. ap (λ q. 0 ∷ q ∷ 11 ∷ i ∷ []) (omega arith)) (λ i. refl) nothing-leads))
+  stage-leads zero = many-leads (λ i l. many-leads (λ m h. alone-leads i m l))
   stage-leads (suc zero) = many-leads (λ s l. parent-leads (Supply s) (λ r i. refl))
   stage-leads (suc (suc zero)) = many-leads (λ h l. cond-leads (isHost plan h) (λ e. parent-leads (Under h) (λ r i. refl)) nothing-leads)
   stage-leads (suc (suc (suc g))) = nothing-leads
@@ -152,7 +161,8 @@ module _ (plan : Plan) where
     broken-refuses b is = go b is (broken-tested plan sound b is)
       where
         go : (b : Breach) → Broken plan b → tested plan b ≡ Refused (number b) (place b) → Refuses (checks plan) (rank b) (number b) (place b)
-        go (eleven i) h e = (omega arith, (omega arith, (omega arith, (h .0, e))))
+        go (twenty i) h e = (omega arith, (h .0, (omega arith, e)))
+        go (eleven i) h e = (omega arith, (h .0, (omega arith, e)))
         go (twelve x i) h e = under-refuses x 12 i _ _ (h .0) (omega arith, (h .0 .there, e))
         go (thirteen x i) h e = under-refuses x 13 i _ _ (h .0) (omega arith, (h .0 .there, e))
         go (fourteen x i) h e = under-refuses x 14 i _ _ (h .0) (omega arith, (h .0 .there, e))

@@ -1,35 +1,50 @@
--- Each test of rules 11 to 14 decides between what the rule asks there and a breach of it. Assumes nothing.
+-- Each test of rules 11 to 14 and 20 decides between what the rule asks there and a breach of it. Assumes nothing.
 use Prim.Native.Nat.{ℕ, suc, _%_, _≤_, _<_}
-use mathlib.Core.Bool.{Bool, true, false, not, _||_, true≢false, false≢true}
+use mathlib.Core.Bool.{Bool, true, false, not, cond, _||_, true≢false, false≢true}
 use mathlib.Core.Path.{_≡_, refl, ap, sym, _∙_}
 use lib.Dec.{leb, eqb}
 use native.Mathlib.Omega.{arith}
 use Rattle.meaning.specs.declared.Kind.the-variants.{Aligned}
+use Rattle.soft.specs.Formula.{allowed}
 use Rattle.types.specs.Verdict.{Said, holds, short, refused, judged}
 use Rattle.types.proofs.Kept.{holding as types-holding, exact as types-exact}
 use Rattle.answers.specs.Answers.{test}
 use Rattle.answers.specs.declared.Answer.{Answer}
 use Rattle.answers.specs.declared.Answer.the-variants.{Refused}
 use Rattle.answers.proofs.Laws.{test-false, test-refused}
-use Rattle.plans.specs.Plan.{kindOf, wantedOf, servedOf, wantedAs, ownType, isChild}
+use Rattle.plans.specs.Plan.{nodeAt, kindOf, wantedOf, missesOf, servedOf, wantedAs, isSoft, ownType, isChild}
 use Rattle.plans.specs.Sound.{Sound, all}
 use Rattle.plans.specs.declared.Parent.{Parent}
 use Rattle.plans.specs.declared.Plan.{Plan}
-use Rattle.rules.specs.Fit.{Child, Rule11, Rule12, Rule13, isWhole, loadTo, side}
-use Rattle.rules.specs.Broken.{Breach, eleven, twelve, thirteen, fourteen, number, place, Broken}
-use Rattle.rules.specs.Check.{holding, alike}
-use Rattle.rules.proofs.KeptDecides.{Decides, decides-as, equal-decides, most-decides, either-decides, unless-decides, all-decides, child-decides}
+use Rattle.rules.specs.Fit.{Child, Rule20, Rule11, Rule12, Rule13, isWhole, loadTo, side}
+use Rattle.rules.specs.Broken.{Breach, twenty, eleven, twelve, thirteen, fourteen, number, place, Broken}
+use Rattle.rules.specs.Check.{holding, made, meets, alike}
+use Rattle.rules.proofs.KeptDecides.{
+  Decides,
+  decides-as,
+  equal-decides,
+  most-decides,
+  either-decides,
+  if-decides,
+  where-decides,
+  unless-decides,
+  all-decides,
+  child-decides,
+}
+use Rattle.rules.proofs.KeptSoft.{hard-eleven, made-decides, soft-decides}
 
 -- what the rule of a breach asks where the breach would be
 abbrev pub Kept : Plan → Breach → Type 0
-Kept plan (eleven i) = Rule11 plan i
+Kept plan (twenty i) = Rule20 plan i
+Kept plan (eleven i) = Rule20 plan i → Rule11 plan i
 Kept plan (twelve x i) = Child plan x i → Rule12 plan x i
 Kept plan (thirteen x i) = Child plan x i → (j : ℕ) → j < i → Child plan x j → Rule13 plan i j
 Kept plan (fourteen x i) = Child plan x i → loadTo plan x (suc i) ≤ side plan x
 
 -- the test for a breach
 abbrev pub tests : Plan → Breach → Bool
-tests plan (eleven i) = holding (judged Aligned (servedOf plan i) (wantedAs (kindOf plan i)) (wantedOf plan i))
+tests plan (twenty i) = made plan i
+tests plan (eleven i) = not (made plan i) || meets plan i
 tests plan (twelve x i) = not (isChild plan x i) || (isWhole (ownType plan x) || eqb (servedOf plan i .t % ownType plan x .t) 0)
 tests plan (thirteen x i) = not (isChild plan x i) || all (alike plan x i) i
 tests plan (fourteen x i) = not (isChild plan x i) || leb (loadTo plan x (suc i)) (side plan x)
@@ -48,6 +63,7 @@ holding-holds (refused r p) e = absurd (false≢true e)
 module _ (plan : Plan) where
   -- a breach stands at one of the plan's nodes
   pub broken-there : (b : Breach) → Broken plan b → place b < plan .size
+  broken-there (twenty i) h = h .0
   broken-there (eleven i) h = h .0
   broken-there (twelve x i) h = h .0 .there
   broken-there (thirteen x i) h = h .0 .there
@@ -60,19 +76,43 @@ module _ (plan : Plan) where
   alike-decides x i j l = child-decides plan _ x j l (either-decides _ _ (equal-decides _ 0) (equal-decides _ 0))
 
   module _ (sound : Sound plan) where
-    -- rule 11 at a node
-    eleven-decides : (i : ℕ) → i < plan .size → Decides (tests plan (eleven i)) (Rule11 plan i) (Rule11 plan i → ⊥)
+    -- how a soft leaf is made
+    twenty-decides : (i : ℕ) → i < plan .size → Decides (tests plan (twenty i)) (Rule20 plan i) (Rule20 plan i → ⊥)
+    unfolding made
+    twenty-decides i l = if-decides (isSoft plan i) _ (made-decides (nodeAt plan i) (sound .served i l) (sound .wanted i l))
+
+    -- rule 11 at a hard node
+    hard-decides : (i : ℕ) → i < plan .size → isSoft plan i ≡ false →
+        Decides (holding (judged Aligned (servedOf plan i) (wantedAs (kindOf plan i)) (wantedOf plan i))) (Rule11 plan i) (Rule11 plan i → ⊥)
     unfolding holding
-    eleven-decides i l =
+    hard-decides i l hard =
+        let same = hard-eleven plan sound i l hard in
         record {
-          right = λ e. let (m, is) = holding-holds _ e in types-holding _ _ _ _ m is .0;
-          wrong = λ e stands. let (m, is) = types-exact _ _ _ _ (sound .served i l) (sound .wanted i l) .0 stands in true≢false (sym (ap holding is) ∙ e);
+          right = λ e. let (m, is) = holding-holds _ e in same .1 (types-holding _ _ _ _ m is .0);
+          wrong = λ e stands.
+              let (m, is) = types-exact _ _ _ _ (sound .served i l) (sound .wanted i l) .0 (same .0 stands) in
+              true≢false (sym (ap holding is) ∙ e);
           apart = λ g n. n g;
         }
 
+    -- rule 11 at a node that is so made
+    eleven-decides : (i : ℕ) → i < plan .size → Rule20 plan i → Decides (meets plan i) (Rule11 plan i) (Rule11 plan i → ⊥)
+    unfolding meets
+    eleven-decides i l twenty = go (isSoft plan i) refl
+      where
+        go : (b : Bool) → isSoft plan i ≡ b →
+            Decides
+            (cond b (allowed (servedOf plan i) (wantedOf plan i) (missesOf plan i))
+            (holding (judged Aligned (servedOf plan i) (wantedAs (kindOf plan i)) (wantedOf plan i))))
+            (Rule11 plan i)
+            (Rule11 plan i → ⊥)
+        go true is = soft-decides (nodeAt plan i) (twenty is) (sound .served i l) (sound .wanted i l) (sound .misses i l)
+        go false is = hard-decides i l is
+
     -- the test for a breach decides between the rule kept and the breach
     tests-decide : (b : Breach) → place b < plan .size → Decides (tests plan b) (Kept plan b) (Broken plan b)
-    tests-decide (eleven i) l = decides-as (λ n. (l, n)) (λ b. b .1) (eleven-decides i l)
+    tests-decide (twenty i) l = decides-as (λ n. (l, n)) (λ b. b .1) (twenty-decides i l)
+    tests-decide (eleven i) l = decides-as (λ n. (l, n)) (λ b. b .1) (where-decides _ _ (twenty-decides i l) (eleven-decides i l))
     tests-decide (twelve x i) l = child-decides plan _ x i l (unless-decides (isWhole (ownType plan x)) _ (equal-decides _ 0))
     tests-decide (thirteen x i) l =
         decides-as

@@ -20,6 +20,7 @@ use Rattle.rules.proofs.Kept.{refused-broken, broken-refused, unbroken-
 agree-back : (a b : Plan) → Agree a b → Agree b a
 agree-back a b agree =
     record {
+      edition = sym (agree .edition);
       tick = sym (agree .tick);
       cores = sym (agree .cores);
       size = sym (agree .size);

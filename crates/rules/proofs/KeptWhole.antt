@@ -16,19 +16,20 @@ use Rattle.plans.proofs.Entries.{child-of-parent, parent-of-child}
 use Rattle.rules.specs.Fit.{childPeriod, longest, load, loadTo, isWhole, owes, side, Child, Fit}
 use Rattle.rules.specs.Promises.{WholeIsServedWhole, WholeUnderWhole, AloneUnderWhole}
 use Rattle.rules.proofs.Formed.{parent-formed}
+use Rattle.rules.proofs.KeptBefore.{hard-as-before}
 use Rattle.rules.proofs.Siblings as siblings
 use Rattle.rules.proofs.Siblings.{whole-periods}
 use Rattle.rules.proofs.Totals.{sum-without, term-le}
 
--- a node that wants every slot is served every slot
+-- a hard node that wants every slot is served every slot
 pub whole-is-served-whole : WholeIsServedWhole
 unfolding isWhole
-whole-is-served-whole plan fit i l whole =
+whole-is-served-whole plan fit i l hard whole =
     let served = bounds (servedOf plan i) (fit .sound .served i l) in
     let wanted = bounds (wantedOf plan i) (fit .sound .wanted i l) in
     eq-eqb (servedOf plan i .c) (servedOf plan i .t)
     (stands-in-every (servedOf plan i) (served .some) (served .fits) (wantedAs (kindOf plan i)) (wantedOf plan i) (wanted .some)
-    (eqb-true (wantedOf plan i .c) (wantedOf plan i .t) whole) (fit .rule11 i l))
+    (eqb-true (wantedOf plan i .c) (wantedOf plan i .t) whole) (hard-as-before plan fit i l hard))
 
 -- C·(m/T) is less than m where C is less than T
 part-less : (C T m : ℕ) → C < T → 0 < m → C * (m / T) < m

@@ -8,6 +8,7 @@ pub mod Siblings
 pub mod Order
 pub mod KeptOrder
 pub mod KeptDecides
+pub mod KeptSoft
 pub mod KeptTests
 pub mod KeptRanks
 pub mod KeptFit

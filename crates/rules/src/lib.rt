@@ -1,5 +1,5 @@
-// Rules 11 to 14 on a plan value: document 01, "Rules beyond the bytes" and the order of "Refusal numbers", with document 02, request 2. Any value may
-// be asked about.
+// Rules 11 to 14 and 20 on a plan value: document 01, "Rules beyond the bytes" and the order of "Refusal numbers", with document 02, requests 2 and 6. Any
+// value may be asked about.
 // Fit says what it is to keep them and Broken which breach comes first (specs/); the calls below are held to Check.
 ghost use mathlib.Core.Path.{_≡_};
 ghost use Rattle.rules.specs.Check.{checked, isFit};
@@ -22,7 +22,7 @@ pub fn is_fit(plan: Plan) -> bool
     answers::is_accepted(check(plan))
 }
 
-// The first broken rule of a value that keeps 2 to 7, with its place; 16 for one that does not.
+// The first broken rule of a value that keeps 2 to 7 and 19, with its place; 16 for one that does not.
 pub fn check(plan: Plan) -> Answer
     ensures { λ r. ⌜ r ≡ checked plan ⌝ }
 {
@@ -32,7 +32,7 @@ pub fn check(plan: Plan) -> Answer
             place: NOWHERE,
         };
     }
-    let served = nodes::check_eleven(plan);
+    let served = nodes::check_nodes(plan);
     let Answer::Accepted = served else {
         return served;
     };

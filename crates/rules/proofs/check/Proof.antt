@@ -13,8 +13,8 @@ is-sound-requires c κs = search needs
 returns : tie.Need-returns
 returns c = search (unsound-refused, not-true)
 
-check-eleven-requires : tie.Need-check-eleven-requires
-check-eleven-requires c κs = search needs
+check-nodes-requires : tie.Need-check-nodes-requires
+check-nodes-requires c κs = search needs
 
 enum-told : tie.Need-enum-told
 enum-told c = search needs
@@ -52,7 +52,7 @@ check-spec =
     (tie.spec
     is-sound-requires
     returns
-    check-eleven-requires
+    check-nodes-requires
     enum-told
     enum-told-2
     returns-2

@@ -1,16 +1,16 @@
--- `rules::nodes::check_eleven` meets its contract. The invariant: the nodes passed are accepted. Assumes nothing.
+-- `rules::nodes::check_nodes` meets its contract. The invariant: the nodes passed are accepted. Assumes nothing.
 use borrow.Author.Needs.{needs}
 use Prim.Native.Nat.{_-_, _≤_}
 use mathlib.Core.Path.{_≡_}
 use Rattle.answers.specs.Answers.{each}
 use Rattle.answers.specs.declared.Answer.the-variants.{Accepted}
 use Rattle.answers.proofs.Laws.{each-none, each-more, each-stop, each-done}
-use Rattle.rules.specs.Check.{elevenAt}
-use Rattle.rules.proofs.nodes.check_eleven.Statement.{statement}
-use Rattle.rules.proofs.nodes.check_eleven.Tie as tie
+use Rattle.rules.specs.Check.{nodeAlone}
+use Rattle.rules.proofs.nodes.check_nodes.Statement.{statement}
+use Rattle.rules.proofs.nodes.check_nodes.Tie as tie
 
 abbrev Inv-loop : tie.InvT-loop
-Inv-loop plan size i₀ i = (i ≤ size) × (each (elevenAt plan) i ≡ Accepted)
+Inv-loop plan size i₀ i = (i ≤ size) × (each (nodeAlone plan) i ≡ Accepted)
 
 abbrev μ-loop : tie.MeasureT-loop
 μ-loop plan size i₀ i = size - i
@@ -18,8 +18,8 @@ abbrev μ-loop : tie.MeasureT-loop
 loop-holds : tie.Need-loop-holds Inv-loop μ-loop
 loop-holds c = search (needs, each-none)
 
-eleven-at-requires : tie.Need-eleven-at-requires Inv-loop μ-loop
-eleven-at-requires c κs = search needs
+check-node-requires : tie.Need-check-node-requires Inv-loop μ-loop
+check-node-requires c κs = search needs
 
 enum-told : tie.Need-enum-told Inv-loop μ-loop
 enum-told c = search needs
@@ -42,14 +42,14 @@ loop-again c = search (needs, each-more)
 returns-2 : tie.Need-returns-2 Inv-loop μ-loop
 returns-2 c = search each-done
 
-pub check-eleven-spec : {M : Type 1} → statement M
-check-eleven-spec =
+pub check-nodes-spec : {M : Type 1} → statement M
+check-nodes-spec =
     tie.close
     (tie.spec
     Inv-loop
     μ-loop
     loop-holds
-    eleven-at-requires
+    check-node-requires
     enum-told
     enum-told-2
     returns

@@ -1,11 +1,12 @@
 -- What it is for a plan value to fit: document 01, "Rules beyond the bytes", with document 02, requests 2 and 6, on top of soundness (2 to 7 and 19). Assumes
 -- nothing.
-use Prim.Native.Nat.{ℕ, zero, suc, _+_, _*_, _/_, _%_, _≤_, max}
+use Prim.Native.Nat.{ℕ, _*_, _/_, _%_, _≤_}
 use mathlib.Core.Bool.{Bool, true, false, cond}
 use mathlib.Core.Logic.{_⊎_}
 use mathlib.Core.Path.{_≡_}
 use lib.Dec.{eqb}
 use Rattle.meaning.specs.Soft.{StandsInSoft}
+unfoldable pub use Rattle.meaning.specs.Sums.{sumTo, mostTo}
 use Rattle.meaning.specs.declared.SlotType.{SlotType}
 use Rattle.meaning.specs.declared.Kind.the-variants.{Aligned}
 use Rattle.plans.specs.Plan.{There, nodeAt, parentOf, kindOf, wantedOf, missesOf, servedOf, isSoft, wantedAs, ownType, isChild}
@@ -14,15 +15,6 @@ use Rattle.plans.specs.declared.NodeKind.the-variants.{AlignedLeaf}
 use Rattle.plans.specs.declared.Node.{Node}
 use Rattle.plans.specs.declared.Parent.{Parent}
 use Rattle.plans.specs.declared.Plan.{Plan}
-
--- f 0 + .. + f (n − 1), and the largest of f 0, .., f (n − 1)
-unfoldable pub sumTo : (ℕ → ℕ) → ℕ → ℕ
-sumTo f zero = 0
-sumTo f (suc n) = sumTo f n + f n
-
-unfoldable pub mostTo : (ℕ → ℕ) → ℕ → ℕ
-mostTo f zero = 0
-mostTo f (suc n) = max (mostTo f n) (f n)
 
 -- a node's served period where it is a child of x, and 0 elsewhere
 unfoldable pub childPeriod : Plan → Parent → ℕ → ℕ

@@ -26,11 +26,11 @@ before-both m e lo z h = elim (decLe (suc m) e) [
 ]
 
 -- the written zeros of block b: from the block's first slot inside the window on
-abbrev zerosFrom : ℕ → ℕ → ℕ → ℕ
+abbrev pub zerosFrom : ℕ → ℕ → ℕ → ℕ
 zerosFrom T s b = max s (b * T)
 
 -- and as far as the window goes, at most T − C of them
-abbrev zerosTo : ℕ → ℕ → ℕ → ℕ → ℕ → ℕ
+abbrev pub zerosTo : ℕ → ℕ → ℕ → ℕ → ℕ → ℕ
 zerosTo C T s L b = min (s + L) (zerosFrom T s b + (T - C))
 
 -- in each block the written allocation is a gap
@@ -45,7 +45,7 @@ written-gap C T s L b m low high = rw same (elim (decLe s m) [
     same = div-eq-of-lt-le T low (rw (add-one b, suc-mul b T) high)
 
 -- n slots of block b, from p on, are their ones and their written zeros
-ones-and-zeros : (C T s L b p n : ℕ) → b * T ≤ p → p + n ≤ b * T + T
+pub ones-and-zeros : (C T s L b p n : ℕ) → b * T ≤ p → p + n ≤ b * T + T
     → ones (written C T s L) p n + (min (p + n) (zerosTo C T s L b) - max p (zerosFrom T s b)) ≡ n
 ones-and-zeros C T s L b p n low high =
     rw (ones-ext (written C T s L) (gap (zerosFrom T s b) (zerosTo C T s L b)) p n (λ m a z. written-gap C T s L b m (omega arith) (omega arith)))

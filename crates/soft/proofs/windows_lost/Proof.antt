@@ -1,0 +1,47 @@
+use borrow.Author.Needs.{needs}
+use Rattle.soft.proofs.windows_lost.Statement.{statement}
+use Rattle.soft.proofs.windows_lost.Tie as tie
+use Rattle.soft.proofs.windows_lost.Reads as reads
+use Rattle.soft.proofs.windows_lost.Lts as lts
+use Rattle.soft.proofs.is_multiple.Reads as is-multiple-reads
+use Rattle.soft.proofs.lost_of_many.Reads as lost-of-many-reads
+
+-- src/lib.rt:81:8
+is-multiple-requires : tie.Need-is-multiple-requires
+is-multiple-requires c κs = search needs
+
+-- src/lib.rt:82:9
+lost-of-many-requires : tie.Need-lost-of-many-requires
+lost-of-many-requires c κs = search needs
+
+-- src/lib.rt:82:9
+returns : tie.Need-returns
+returns c = search needs
+
+-- src/lib.rt:84:8
+div-if2 : tie.Need-div-if2
+div-if2 c = search needs
+
+-- src/lib.rt:84:8
+mul-if2 : tie.Need-mul-if2
+mul-if2 c = search needs
+
+-- src/lib.rt:77:1
+returns-2 : tie.Need-returns-2
+returns-2 c = search needs
+
+-- src/lib.rt:77:1
+returns-3 : tie.Need-returns-3
+returns-3 c = search needs
+
+pub windows-lost-spec : {M : Type 1} → statement M
+windows-lost-spec =
+    tie.close
+    (tie.spec
+    is-multiple-requires
+    lost-of-many-requires
+    returns
+    div-if2
+    mul-if2
+    returns-2
+    returns-3)

@@ -1,3 +1,5 @@
 pub mod Greatest
+pub mod Lost
 pub mod Loses
 pub mod Judged
+pub mod Answers

@@ -1,36 +1,32 @@
+-- `soft::lost_of_many` meets its contract. Assumes nothing.
 use borrow.Author.Needs.{needs}
+use Rattle.types.proofs.Windows.{period-positive, count-le}
+use Rattle.soft.proofs.Answers.{asks-nothing, all-but-one, gone-some, some-lost, all-lost}
 use Rattle.soft.proofs.lost_of_many.Statement.{statement}
 use Rattle.soft.proofs.lost_of_many.Tie as tie
 use Rattle.soft.proofs.lost_of_many.Reads as reads
 use Rattle.soft.proofs.lost_of_many.Lts as lts
 
--- src/lib.rt:97:9
 returns : tie.Need-returns
-returns c = search needs
+returns c = search asks-nothing
 
--- src/lib.rt:99:15
 div-all : tie.Need-div-all
-div-all c = search needs
+div-all c = search period-positive
 
--- src/lib.rt:100:17
 sub-some : tie.Need-sub-some
-sub-some c = search needs
+sub-some c = search count-le
 
--- src/lib.rt:100:41
 sub-some-2 : tie.Need-sub-some-2
-sub-some-2 c = search needs
+sub-some-2 c = search all-but-one
 
--- src/lib.rt:100:16
 div-some : tie.Need-div-some
-div-some c = search needs
+div-some c = search gone-some
 
--- src/lib.rt:92:1
 returns-2 : tie.Need-returns-2
-returns-2 c = search needs
+returns-2 c = search some-lost
 
--- src/lib.rt:92:1
 returns-3 : tie.Need-returns-3
-returns-3 c = search needs
+returns-3 c = search all-lost
 
 pub lost-of-many-spec : {M : Type 1} → statement M
 lost-of-many-spec =

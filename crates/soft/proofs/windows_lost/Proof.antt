@@ -1,4 +1,8 @@
+-- `soft::windows_lost` meets its contract. Assumes nothing.
 use borrow.Author.Needs.{needs}
+use mir.Facts.{fits-le, fits-lit}
+use Rattle.types.proofs.Windows.{period-positive}
+use Rattle.soft.proofs.Answers.{multiple, lost-of-many, lost-whole, lost-none, owed-small}
 use Rattle.soft.proofs.windows_lost.Statement.{statement}
 use Rattle.soft.proofs.windows_lost.Tie as tie
 use Rattle.soft.proofs.windows_lost.Reads as reads
@@ -6,33 +10,26 @@ use Rattle.soft.proofs.windows_lost.Lts as lts
 use Rattle.soft.proofs.is_multiple.Reads as is-multiple-reads
 use Rattle.soft.proofs.lost_of_many.Reads as lost-of-many-reads
 
--- src/lib.rt:81:8
 is-multiple-requires : tie.Need-is-multiple-requires
 is-multiple-requires c κs = search needs
 
--- src/lib.rt:82:9
 lost-of-many-requires : tie.Need-lost-of-many-requires
-lost-of-many-requires c κs = search needs
+lost-of-many-requires c κs = search (needs, multiple)
 
--- src/lib.rt:82:9
 returns : tie.Need-returns
-returns c = search needs
+returns c = search lost-of-many
 
--- src/lib.rt:84:8
 div-if2 : tie.Need-div-if2
-div-if2 c = search needs
+div-if2 c = search period-positive
 
--- src/lib.rt:84:8
 mul-if2 : tie.Need-mul-if2
-mul-if2 c = search needs
+mul-if2 c = fits-le {n = 4096} (search owed-small) (fits-lit tt)
 
--- src/lib.rt:77:1
 returns-2 : tie.Need-returns-2
-returns-2 c = search needs
+returns-2 c = search lost-whole
 
--- src/lib.rt:77:1
 returns-3 : tie.Need-returns-3
-returns-3 c = search needs
+returns-3 c = search lost-none
 
 pub windows-lost-spec : {M : Type 1} → statement M
 windows-lost-spec =

@@ -37,7 +37,7 @@ returns-4 : tie.Need-returns-4
 returns-4 c = search (not-divided, not-true, not-false)
 
 loses-few-requires : tie.Need-loses-few-requires
-loses-few-requires c κs = ((search formed, formed _ _ (c .before .before .before .before .before .is-well-formed2 .ensures) (c .before .before .before .before .if2 .left)), search ranged)
+loses-few-requires c κs = ((search formed, formed _ _ (c .before .before .before .before .before .is-well-formed2 .ensures) (c .before .before .before .before .if2 .left)), ranged _ _ (c .before .before .before .is-within-range .ensures) (c .before .before .if3 .left))
 
 returns-5 : tie.Need-returns-5
 returns-5 c = search (by-formula, not-false)

@@ -98,7 +98,7 @@ module _ (plan : Plan) where
     -- rule 11 at a node that is so made
     eleven-decides : (i : ℕ) → i < plan .size → Rule20 plan i → Decides (meets plan i) (Rule11 plan i) (Rule11 plan i → ⊥)
     unfolding meets
-    eleven-decides i l twenty = go (isSoft plan i) refl
+    eleven-decides i l so = go (isSoft plan i) refl
       where
         go : (b : Bool) → isSoft plan i ≡ b →
             Decides
@@ -106,7 +106,7 @@ module _ (plan : Plan) where
             (holding (judged Aligned (servedOf plan i) (wantedAs (kindOf plan i)) (wantedOf plan i))))
             (Rule11 plan i)
             (Rule11 plan i → ⊥)
-        go true is = soft-decides (nodeAt plan i) (twenty is) (sound .served i l) (sound .wanted i l) (sound .misses i l)
+        go true is = soft-decides (nodeAt plan i) (so is) (sound .served i l) (sound .wanted i l) (sound .misses i l)
         go false is = hard-decides i l is
 
     -- the test for a breach decides between the rule kept and the breach

@@ -12,7 +12,7 @@ use Rattle.meaning.specs.declared.SlotType.{SlotType}
 use Rattle.meaning.specs.declared.Kind.the-variants.{Aligned}
 use Rattle.meaning.proofs.WellFormed.{bounds, within-bounds}
 use Rattle.soft.specs.Formula.{divides, divided, allowed}
-use Rattle.soft.proofs.Kept.{hard-is-soft, allowed-exactly}
+use Rattle.soft.proofs.Kept.{stands-in-alike, allowed-exactly}
 use Rattle.plans.specs.Plan.{There, kindOf, wantedOf, missesOf, servedOf, wantedAs, isHost, isSoft}
 use Rattle.plans.specs.Sound.{Sound}
 use Rattle.plans.specs.declared.NodeKind.{NodeKind}
@@ -37,8 +37,8 @@ module _ (plan : Plan) (sound : Sound plan) (i : ℕ) (l : There plan i) where
   -- so its rule 11 is document 01's
   pub hard-eleven : isSoft plan i ≡ false → Rule11 plan i ↔ Rule11Before plan i
   hard-eleven hard =
-      hard-is-soft Aligned (servedOf plan i) (wantedAs (kindOf plan i)) (wantedOf plan i) (missesOf plan i) (hard-misses hard)
-      (within-bounds (missesOf plan i) (sound .misses i l) .some)
+      stands-in-alike (wantedAs (kindOf plan i)) (wantedOf plan i) (missesOf plan i) (hard-misses hard)
+      (within-bounds (missesOf plan i) (sound .misses i l) .some) Aligned (servedOf plan i)
 
 -- a node of an edition 1 plan is hard
 pub first-hard : (plan : Plan) → Sound plan → plan .edition ≡ 1 → (i : ℕ) → There plan i → isSoft plan i ≡ false

@@ -43,8 +43,15 @@ module _ (K u s L : ℕ) (some : 0 < K) (most : u ≤ K) where
   zeros-to : (n : ℕ) → ones α 0 (n * K) + sumTo part n ≡ n * K
   unfolding sumTo ones
   zeros-to zero = rw (zero-mul K)
-  zeros-to (suc n) = omega (arith, suc-mul n K, ap (ones α 0) (suc-mul n K), ones-split α 0 (n * K) K, ap (λ (x : ℕ). ones α x K) (zero-add (n * K)),
-      zeros-to n, zeros-in n)
+  zeros-to (suc n) = omega (
+    arith,
+    suc-mul n K,
+    ap (ones α 0) (suc-mul n K),
+    ones-split α 0 (n * K) K,
+    ap (λ (x : ℕ). ones α x K) (zero-add (n * K)),
+    zeros-to n,
+    zeros-in n,
+  )
 
   -- outside the stretch that choice has every window
   before : ones α 0 s ≡ s

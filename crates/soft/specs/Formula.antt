@@ -5,6 +5,7 @@ use mathlib.Core.Bool.{Bool, cond, _&&_, _||_}
 use lib.Dec.{eqb, leb, ltb}
 use Rattle.meaning.specs.Types.{wellFormed}
 use Rattle.meaning.specs.Soft.{withinRange}
+unfoldable pub use Rattle.meaning.specs.Sums.{sumTo, mostTo}
 use Rattle.meaning.specs.declared.SlotType.{SlotType}
 use Rattle.meaning.specs.declared.Misses.{Misses}
 
@@ -20,15 +21,6 @@ divided served wanted = divides (wanted .t) (served .t) || divides (served .t) (
 unfoldable pub greatest : (ℕ → Bool) → ℕ → ℕ
 greatest f zero = 0
 greatest f (suc n) = cond (f (suc n)) (suc n) (greatest f n)
-
--- f 0 + .. + f (n − 1), and the largest of f 0, .., f (n − 1)
-unfoldable pub sumTo : (ℕ → ℕ) → ℕ → ℕ
-sumTo f zero = 0
-sumTo f (suc n) = sumTo f n + f n
-
-unfoldable pub mostTo : (ℕ → ℕ) → ℕ → ℕ
-mostTo f zero = 0
-mostTo f (suc n) = max (mostTo f n) (f n)
 
 -- a served period of K windows can lose u of them: with C' − 1 slots in each lost one and all T' in each other, it has its C
 unfoldable pub canLose : SlotType → SlotType → ℕ → ℕ → Bool

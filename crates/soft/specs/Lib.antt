@@ -1,1 +1,3 @@
 pub mod Formula
+pub mod Examples
+pub mod Promises

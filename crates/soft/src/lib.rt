@@ -6,7 +6,6 @@ ghost use mathlib.Core.Bool.{true};
 ghost use Rattle.meaning.specs.Types.{wellFormed};
 ghost use Rattle.meaning.specs.Soft.{withinRange};
 ghost use Rattle.soft.specs.Formula.{divides, divided, windowsIn, lost, lostOfMany, losesFew, allowed};
-
 use meaning::Kind;
 use meaning::Misses;
 use meaning::SlotType;

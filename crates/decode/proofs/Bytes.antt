@@ -5,14 +5,15 @@ use mathlib.Core.List.{List}
 use mathlib.Core.Path.{_≡_}
 use native.Mathlib.Omega.{arith}
 use borrow.Author.Tests.{lt-ltb, le-ltb, eq-eqb, ne-eqb}
+use Rattle.meaning.specs.declared.Misses.{Misses}
 use Rattle.meaning.specs.declared.SlotType.{SlotType}
 use Rattle.fields.specs.Fields.{byteAt, typeAt}
 use Rattle.plans.specs.declared.NodeKind.{NodeKind}
 use Rattle.plans.specs.declared.NodeKind.the-variants.{AlignedLeaf, SlidingLeaf, Host}
 use Rattle.plans.specs.declared.Parent.{Parent}
 use Rattle.plans.specs.declared.Parent.the-variants.{Supply, Node as Under}
-use Rattle.decode.specs.Positions.{nodesAt, nodeStart}
-use Rattle.decode.specs.Decode.{kindNamed, parentOfByte, canBe, parentNamed, isNamed, parentOr, nodeOf}
+use Rattle.decode.specs.Positions.{further, coresAt, supplyStart, nodesAt, sizeOf, nodeStart, servedAt, namesAt}
+use Rattle.decode.specs.Decode.{kindNamed, parentOfByte, canBe, parentNamed, isNamed, parentOr, missesOr, supplyOf, nodeOf}
 use Rattle.decode.specs.declared.Named.{Named}
 use Rattle.decode.specs.declared.Named.the-variants.{Parent as names, Nothing}
 
@@ -69,10 +70,21 @@ module _ (n : Named) where
     unfolding parentOr
     parent-is-zero = rw e
 
--- a node, whose section begins at k, is what its bytes spell
-pub node-read : (s : List ℕ) (i k b p : ℕ) (kind : NodeKind) (n : Named) (parent : Parent) (wanted served : SlotType) → k ≡ nodesAt s →
-    b ≡ byteAt s (k + 1 + 10 * i) → kind ≡ kindNamed b → p ≡ byteAt s (k + 1 + 10 * i + 1) → n ≡ parentNamed p → parent ≡ parentOr n →
-    wanted ≡ typeAt s (k + 1 + 10 * i + 2) → served ≡ typeAt s (k + 1 + 10 * i + 6) →
-    record { kind = kind; parent = parent; wanted = wanted; served = served } ≡ nodeOf s i
-unfolding nodeOf nodeStart
-node-read s i k b p kind n parent wanted served h a₁ a₂ b₁ b₂ b₃ w v = cc
+-- a supply, where the supplies' count stands at k, is what its bytes spell
+pub supply-read : (s : List ℕ) (i k : ℕ) (v : SlotType) → k ≡ coresAt s → v ≡ typeAt s (k + 1 + 4 * i) → v ≡ supplyOf s i
+unfolding supplyOf supplyStart
+supply-read s i k v h e = rw (← h) e
+
+-- where the names' count stands, after n nodes
+pub names-read : (s : List ℕ) (k m n : ℕ) → k ≡ nodesAt s → n ≡ sizeOf s → m ≡ further s (4 * n) → k + 1 + 10 * n + m ≡ namesAt s
+unfolding namesAt nodeStart
+names-read s k m n h size more = rw (← size, ← h, ← more)
+
+-- a node, where the nodes' count stands at k and node i has m bytes more before it, and n more before its served type, is what its bytes spell
+pub node-read : (s : List ℕ) (i k m n b p : ℕ) (kind : NodeKind) (x : Named) (parent : Parent) (wanted served : SlotType) (misses : Misses) →
+    k ≡ nodesAt s → m ≡ further s (4 * i) → n ≡ further s 4 → b ≡ byteAt s (k + 1 + 10 * i + m) → kind ≡ kindNamed b →
+    p ≡ byteAt s (k + 1 + 10 * i + m + 1) → x ≡ parentNamed p → parent ≡ parentOr x → wanted ≡ typeAt s (k + 1 + 10 * i + m + 2) →
+    misses ≡ missesOr s (k + 1 + 10 * i + m + 6) → served ≡ typeAt s (k + 1 + 10 * i + m + 6 + n) →
+    record { kind = kind; parent = parent; wanted = wanted; misses = misses; served = served } ≡ nodeOf s i
+unfolding nodeOf nodeStart servedAt
+node-read s i k m n b p kind x parent wanted served misses h at more a₁ a₂ b₁ b₂ b₃ w d v = cc

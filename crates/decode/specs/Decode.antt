@@ -1,19 +1,21 @@
--- The plan value that bytes spell, whether or not they are to be accepted: document 01, "The plan file". Assumes nothing.
+-- The plan value that bytes spell, whether or not they are to be accepted: document 01, "The plan file", and document 02, request 6.
+-- Assumes nothing.
 use Prim.Native.Nat.{ℕ, zero, suc, _+_, _-_, min}
 use mathlib.Core.Bool.{Bool, true, false, cond}
 use mathlib.Core.List.{List}
 use lib.Dec.{eqb, ltb}
 use lib.ListN.{set, replicate}
-use Rattle.fields.specs.Fields.{byteAt, fourAt, typeAt}
+use Rattle.fields.specs.Fields.{byteAt, fourAt, typeAt, missesAt}
+use Rattle.meaning.specs.declared.Misses.{Misses}
 use Rattle.meaning.specs.declared.SlotType.{SlotType}
-use Rattle.plans.specs.Plan.{zeroType, zeroNode}
+use Rattle.plans.specs.Plan.{zeroType, zeroNode, noMisses}
 use Rattle.plans.specs.declared.NodeKind.{NodeKind}
 use Rattle.plans.specs.declared.NodeKind.the-variants.{AlignedLeaf, SlidingLeaf, Host}
 use Rattle.plans.specs.declared.Parent.{Parent}
 use Rattle.plans.specs.declared.Parent.the-variants.{Supply, Node as Under}
 use Rattle.plans.specs.declared.Node.{Node}
 use Rattle.plans.specs.declared.Plan.{Plan}
-use Rattle.decode.specs.Positions.{coresOf, supplyStart, sizeOf, nodeStart}
+use Rattle.decode.specs.Positions.{editionOf, coresOf, supplyStart, sizeOf, nodeStart, servedAt}
 use Rattle.decode.specs.declared.Named.{Named}
 use Rattle.decode.specs.declared.Named.the-variants.{Parent as names, Nothing}
 
@@ -42,9 +44,13 @@ unfoldable pub parentOr : Named → Parent
 parentOr (names x) = x
 parentOr Nothing = Supply 0
 
+-- the misses whose D begins at k in edition 2, and 02: "An edition 1 node has D 0 and W 1"
+unfoldable pub missesOr : List ℕ → ℕ → Misses
+missesOr s k = cond (eqb (editionOf s) 2) (missesAt s k) noMisses
+
 -- supply i and node i as the bytes have them
 unfoldable pub supplyOf : List ℕ → ℕ → SlotType
-supplyOf s i = typeAt s (supplyStart i)
+supplyOf s i = typeAt s (supplyStart s i)
 
 unfoldable pub nodeOf : List ℕ → ℕ → Node
 nodeOf s i =
@@ -53,7 +59,8 @@ nodeOf s i =
       kind = kindNamed (byteAt s k);
       parent = parentOr (parentNamed (byteAt s (k + 1)));
       wanted = typeAt s (k + 2);
-      served = typeAt s (k + 6);
+      misses = missesOr s (k + 6);
+      served = typeAt s (servedAt s i);
     }
 
 -- xs with f 0, .., f (n − 1) in its first n places
@@ -65,6 +72,7 @@ filled f xs (suc n) = set (filled f xs n) n (f n)
 unfoldable pub planOf : List ℕ → Plan
 planOf s =
     record {
+      edition = editionOf s;
       tick = record { p = fourAt s 1; q = fourAt s 5 };
       cores = coresOf s;
       supplies = filled (supplyOf s) (replicate 8 zeroType) (min (coresOf s) 8);

@@ -1,11 +1,12 @@
-// The plan value that bytes spell: where the parts of a plan file stand, and what they say. Document 01, "The plan file". Bytes of any length and
-// content are taken; whether they are a plan is the reader's to say.
+// The plan value that bytes spell: where the parts of a plan file stand, and what they say. Document 01, "The plan file", and document 02, request 6. Bytes
+// of any length and content are taken; whether they are a plan is the reader's to say.
 ghost use mathlib.Core.Path.{_≡_};
 ghost use Prim.Native.Nat.{_≤_, min};
 ghost use lib.ListN.{replicate};
 ghost use Rattle.plans.specs.Plan.{zeroType, zeroNode};
-ghost use Rattle.decode.specs.Positions.{coresOf, sizeOf, nodesAt, namesAt};
-ghost use Rattle.decode.specs.Decode.{kindNamed, parentNamed, isNamed, parentOr, supplyOf, nodeOf, filled, planOf};
+ghost use Rattle.decode.specs.Positions.{editionOf, further, coresAt, coresOf, sizeOf, nodesAt, namesAt};
+ghost use Rattle.decode.specs.Decode.{kindNamed, parentNamed, isNamed, parentOr, missesOr, supplyOf, nodeOf, filled, planOf};
+use meaning::Misses;
 use meaning::SlotType;
 use plans::Node;
 use plans::NodeKind;
@@ -30,18 +31,39 @@ pub fn parent_named(b: u8) -> Named
     }
 }
 
+// The edition, as the tick's count says it.
+pub fn edition_of(s: &[u8]) -> u8
+    ensures { λ r. ⌜ r ≡ editionOf (now (s .entry)) ⌝ }
+{
+    fields::byte_at(s, 0)
+}
+
+// So many bytes more in edition 2.
+pub fn further(s: &[u8], n: usize) -> usize
+    ensures { λ r. ⌜ (r ≡ further (now (s .entry)) n) × (r ≤ n) ⌝ }
+{
+    if edition_of(s) == 2 { n } else { 0 }
+}
+
+// Where the supplies' count stands.
+pub fn cores_at(s: &[u8]) -> usize
+    ensures { λ r. ⌜ (r ≡ coresAt (now (s .entry))) × (r ≤ 17) ⌝ }
+{
+    9 + further(s, 8)
+}
+
 // The number of supplies, as the file says.
 pub fn cores_of(s: &[u8]) -> usize
     ensures { λ r. ⌜ (r ≡ coresOf (now (s .entry))) × (r ≤ 255) ⌝ }
 {
-    fields::byte_at(s, 9) as usize
+    fields::byte_at(s, cores_at(s)) as usize
 }
 
 // Where the nodes' count stands.
 pub fn nodes_at(s: &[u8]) -> usize
-    ensures { λ r. ⌜ (r ≡ nodesAt (now (s .entry))) × (r ≤ 1030) ⌝ }
+    ensures { λ r. ⌜ (r ≡ nodesAt (now (s .entry))) × (r ≤ 1038) ⌝ }
 {
-    10 + 4 * cores_of(s)
+    cores_at(s) + 1 + 4 * cores_of(s)
 }
 
 // The number of nodes, as the file says.
@@ -53,9 +75,10 @@ pub fn size_of(s: &[u8]) -> usize
 
 // Where the names' count stands.
 pub fn names_at(s: &[u8]) -> usize
-    ensures { λ r. ⌜ (r ≡ namesAt (now (s .entry))) × (r ≤ 3581) ⌝ }
+    ensures { λ r. ⌜ (r ≡ namesAt (now (s .entry))) × (r ≤ 4609) ⌝ }
 {
-    nodes_at(s) + 1 + 10 * size_of(s)
+    let size = size_of(s);
+    nodes_at(s) + 1 + 10 * size + further(s, 4 * size)
 }
 
 // The plan value that the bytes spell.
@@ -71,6 +94,7 @@ pub fn plan_of(s: &[u8]) -> Plan
     let size = size_of(s);
     let nodes = nodes_of(s, smaller(size, 64));
     Plan {
+        edition: edition_of(s),
         tick,
         cores,
         supplies,
@@ -83,10 +107,11 @@ fn supplies_of(s: &[u8], n: usize) -> [SlotType; 8]
     requires { ⌜ n ≤ 8 ⌝ }
     ensures { λ r. ⌜ r ≡ filled (supplyOf (now (s .entry))) (replicate 8 zeroType) n ⌝ }
 {
+    let k = cores_at(s) + 1;
     let mut all = [SlotType { c: 0, t: 0 }; 8];
     let mut i: usize = 0;
     while i < n {
-        all[i] = fields::type_at(s, 10 + 4 * i);
+        all[i] = fields::type_at(s, k + 4 * i);
         i += 1;
     }
     all
@@ -101,6 +126,7 @@ fn nodes_of(s: &[u8], n: usize) -> [Node; 64]
         kind: NodeKind::AlignedLeaf,
         parent: plans::Parent::Supply(0),
         wanted: none,
+        misses: Misses { d: 0, w: 0 },
         served: none,
     };
     let mut all = [zero; 64];
@@ -116,14 +142,26 @@ fn node_of(s: &[u8], i: usize) -> Node
     requires { ⌜ i ≤ 64 ⌝ }
     ensures { λ r. ⌜ r ≡ nodeOf (now (s .entry)) i ⌝ }
 {
-    let k = nodes_at(s) + 1 + 10 * i;
+    let k = nodes_at(s) + 1 + 10 * i + further(s, 4 * i);
     let kind = kind_named(fields::byte_at(s, k));
     let parent = parent_or(parent_named(fields::byte_at(s, k + 1)));
     Node {
         kind,
         parent,
         wanted: fields::type_at(s, k + 2),
-        served: fields::type_at(s, k + 6),
+        misses: misses_or(s, k + 6),
+        served: fields::type_at(s, k + 6 + further(s, 4)),
+    }
+}
+
+// The misses whose D begins at k in edition 2; none are allowed in edition 1.
+fn misses_or(s: &[u8], k: usize) -> Misses
+    ensures { λ r. ⌜ r ≡ missesOr (now (s .entry)) k ⌝ }
+{
+    if edition_of(s) == 2 {
+        fields::misses_at(s, k)
+    } else {
+        Misses { d: 0, w: 1 }
     }
 }
 

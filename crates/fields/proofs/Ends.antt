@@ -13,7 +13,7 @@ use Rattle.answers.specs.Answers.{test}
 use Rattle.answers.specs.declared.Answer.{Answer}
 use Rattle.answers.specs.declared.Answer.the-variants.{Accepted, Refused}
 use Rattle.answers.proofs.Laws.{test-false, test-accepted}
-use Rattle.fields.specs.Fields.{byteAt, twoAt, fourAt, typeAt, there}
+use Rattle.fields.specs.Fields.{byteAt, twoAt, fourAt, typeAt, missesAt, there}
 
 module _ (s : List ℕ) where
   -- past the end a byte reads as 0,
@@ -35,6 +35,11 @@ module _ (s : List ℕ) where
   pub type-past : (k : ℕ) → length s ≤ k → record { c = 0; t = 0 } ≡ typeAt s k
   unfolding typeAt
   type-past k h = rw (← two-past k h, ← two-past (k + 2) (omega arith))
+
+  -- and of misses
+  pub misses-past : (k : ℕ) → length s ≤ k → record { d = 0; w = 0 } ≡ missesAt s k
+  unfolding missesAt
+  misses-past k h = rw (← two-past k h, ← two-past (k + 2) (omega arith))
 
 -- n more than k fit within l where n fit into what is left of it
 leb-left : (k n l : ℕ) → k ≤ l → leb n (l - k) ≡ leb (k + n) l

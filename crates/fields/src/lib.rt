@@ -1,8 +1,9 @@
-// The fields of a plan file: bytes, numbers of two and four bytes, types, and whether a field is there. Document 01, "The plan file". Every call
-// takes bytes of any length and any position: past the end a byte reads as 0.
+// The fields of a plan file: bytes, numbers of two and four bytes, types, misses, and whether a field is there. Document 01, "The plan file", and document
+// 02, request 6. Every call takes bytes of any length and any position: past the end a byte reads as 0.
 ghost use mathlib.Core.Path.{_≡_};
-ghost use Rattle.fields.specs.Fields.{byteAt, twoAt, fourAt, typeAt, there, checkType};
+ghost use Rattle.fields.specs.Fields.{byteAt, twoAt, fourAt, typeAt, missesAt, there, checkType};
 use answers::Answer;
+use meaning::Misses;
 use meaning::SlotType;
 
 pub fn byte_at(s: &[u8], k: usize) -> u8
@@ -42,6 +43,19 @@ pub fn type_at(s: &[u8], k: usize) -> SlotType
     SlotType {
         c: two_at(s, k),
         t: two_at(s, k + 2),
+    }
+}
+
+// D and W, of which D begins at k.
+pub fn misses_at(s: &[u8], k: usize) -> Misses
+    ensures { λ r. ⌜ r ≡ missesAt (now (s .entry)) k ⌝ }
+{
+    if s.len() <= k {
+        return Misses { d: 0, w: 0 };
+    }
+    Misses {
+        d: two_at(s, k),
+        w: two_at(s, k + 2),
     }
 }
 

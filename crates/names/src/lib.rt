@@ -8,7 +8,7 @@ use answers::Answer;
 
 // Where name i begins, with its length byte; past the last name, where the names end.
 pub fn start_of(s: &[u8], i: usize) -> usize
-    ensures { λ r. ⌜ (r ≡ nameStart (now (s .entry)) (min i (sizeOf (now (s .entry))))) × (r ≤ 68862) ⌝ }
+    ensures { λ r. ⌜ (r ≡ nameStart (now (s .entry)) (min i (sizeOf (now (s .entry))))) × (r ≤ 69890) ⌝ }
 {
     let size = decode::size_of(s);
     if i < size {
@@ -146,7 +146,7 @@ fn is_same(s: &[u8], a: usize, b: usize) -> bool
 // Where name i begins, for any i that a count's byte can hold.
 fn start_at(s: &[u8], i: usize) -> usize
     requires { ⌜ i ≤ 255 ⌝ }
-    ensures { λ r. ⌜ (r ≡ nameStart (now (s .entry)) i) × (r ≤ 3582 + 256 * i) ⌝ }
+    ensures { λ r. ⌜ (r ≡ nameStart (now (s .entry)) i) × (r ≤ 4610 + 256 * i) ⌝ }
 {
     let mut k = decode::names_at(s) + 1;
     let mut j: usize = 0;

@@ -41,7 +41,7 @@ or-right true b e h = e
 or-right false b e h = absurd (false≢true h)
 
 -- an edition that passes is 1 or 2, and back
-edition-one-of : (n : ℕ) → isEdition n ≡ true → (n ≡ 1) ⊎ (n ≡ 2)
+pub edition-one-of : (n : ℕ) → isEdition n ≡ true → (n ≡ 1) ⊎ (n ≡ 2)
 unfolding isEdition
 edition-one-of n e = go (eqb n 1) refl
   where
@@ -49,7 +49,7 @@ edition-one-of n e = go (eqb n 1) refl
     go true h = inl (eqb-true n 1 h)
     go false h = inr (eqb-true n 2 (rw h at e))
 
-is-edition : (n : ℕ) → (n ≡ 1) ⊎ (n ≡ 2) → isEdition n ≡ true
+pub is-edition : (n : ℕ) → (n ≡ 1) ⊎ (n ≡ 2) → isEdition n ≡ true
 unfolding isEdition
 is-edition n (inl e) = rw e
 is-edition n (inr e) = rw e

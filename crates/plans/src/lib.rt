@@ -18,6 +18,7 @@ use meaning::Misses;
 use meaning::SlotType;
 pub use soundness::are_misses_borne;
 pub use soundness::is_count;
+pub use soundness::is_edition;
 pub use soundness::is_sound;
 use ticks::Tick;
 pub use tree::is_child;

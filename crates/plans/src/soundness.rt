@@ -31,7 +31,7 @@ pub fn is_sound(plan: Plan) -> bool
 }
 
 // Whether an edition is one that there is.
-fn is_edition(n: u8) -> bool
+pub fn is_edition(n: u8) -> bool
     ensures { λ r. ⌜ r ≡ isEdition n ⌝ }
 {
     if n == 1 { true } else { n == 2 }

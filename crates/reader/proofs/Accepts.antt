@@ -1,26 +1,31 @@
--- What the checks of a plan file accept, said as sentences: refusals 1 to 10 of document 01, field by field. Assumes nothing.
+-- What the checks of a plan file accept, said as sentences: refusals 1 to 10 of document 01 and 19 of document 02, field by field. Assumes nothing.
 use Prim.Native.Nat.{ℕ, _+_, _-_, _≤_, _<_}
-use mathlib.Core.Bool.{Bool, true, false, not, and-eq-true-iff}
+use mathlib.Core.Bool.{Bool, true, false, not, cond, and-eq-true-iff}
 use mathlib.Core.List.{List}
-use mathlib.Core.Logic.{_↔_}
-use mathlib.Core.Path.{_≡_, sym, ap, _∙_}
+use mathlib.Core.Logic.{_↔_, _⊎_}
+use mathlib.Core.Path.{_≡_, refl, sym, ap, _∙_}
 use native.Mathlib.Omega.{arith}
 use lib.Dec.{leb, eqb}
 use lib.ListN.{length}
-use borrow.Author.Tests.{leb-true, le-leb, eqb-true, eq-eqb, not-true}
+use borrow.Author.Tests.{leb-true, le-leb, eqb-true, eq-eqb, eqb-false, not-true}
 use Rattle.ticks.specs.Times.{inRange}
 use Rattle.meaning.specs.Types.{wellFormed}
+use Rattle.meaning.specs.Soft.{withinRange}
 use Rattle.answers.specs.Answers.{first, test, each}
 use Rattle.answers.specs.declared.Answer.{Answer}
 use Rattle.answers.specs.declared.Answer.the-variants.{Accepted}
 use Rattle.answers.proofs.Laws.{first-assoc, first-accepted, first-accepted-left, first-accepted-right, test-true, test-accepted, each-accepted, each-accepted-at}
-use Rattle.plans.specs.Sound.{all, counts, parentAllowed, within}
+use Rattle.plans.specs.Plan.{kindOf, noMisses}
+use Rattle.plans.specs.Sound.{all, counts, isEdition, parentAllowed, within, borne}
+use Rattle.plans.specs.declared.NodeKind.{NodeKind}
 use Rattle.plans.proofs.All.{all-true, all-true-at}
-use Rattle.fields.specs.Fields.{byteAt, fourAt, typeAt, there, checkType}
-use Rattle.decode.specs.Positions.{coresOf, supplyStart, nodesAt, sizeOf, nodeStart, namesAt, nameStart, endAt}
-use Rattle.decode.specs.Decode.{parentNamed, isNamed, planOf}
+use Rattle.plans.proofs.Kept.{edition-one-of, is-edition, kept-borne}
+use Rattle.fields.specs.Fields.{byteAt, fourAt, typeAt, missesAt, there, checkType}
+use Rattle.decode.specs.Positions.{editionOf, further, coresAt, coresOf, supplyStart, nodesAt, sizeOf, nodeStart, servedAt, namesAt, nameStart, endAt}
+use Rattle.decode.specs.Decode.{parentNamed, isNamed, missesOr, planOf}
+use Rattle.decode.proofs.Editions.{further-second, misses-two, misses-not}
 use Rattle.names.specs.Names.{isLength, isLetter, letterAt, checkLetter, sameName, differs, isNew, checkName, checkNames}
-use Rattle.reader.specs.Read.{checkPart, checkTick, checkCount, checkSupply, checkSupplies, checkKind, checkParent, checkNode, checkNodes, checkEnd, checkBytes}
+use Rattle.reader.specs.Read.{checkPart, spareAt, checkSpare, checkTick, checkCount, checkSupply, checkSupplies, checkKind, checkParent, checkMisses, checkNode, checkNodes, checkEnd, checkBytes}
 
 -- the tests and their joins, as equivalences
 first-iff : (a b : Answer) → (first a b ≡ Accepted) ↔ ((a ≡ Accepted) × (b ≡ Accepted))
@@ -41,10 +46,18 @@ leb-iff a b = (leb-true a b, le-leb a b)
 eqb-iff : (a b : ℕ) → (eqb a b ≡ true) ↔ (a ≡ b)
 eqb-iff a b = (eqb-true a b, eq-eqb a b)
 
+edition-iff : (n : ℕ) → (isEdition n ≡ true) ↔ ((n ≡ 1) ⊎ (n ≡ 2))
+edition-iff n = (edition-one-of n, is-edition n)
+
 not-iff : (b : Bool) → (not b ≡ true) ↔ (b ≡ false)
 not-iff b = (not-true b, λ e. ap not e)
 
-ruleset sentences = (first-iff, test-iff, each-iff, all-iff, leb-iff, eqb-iff, not-iff, and-eq-true-iff)
+ruleset sentences = (first-iff, test-iff, each-iff, all-iff, leb-iff, eqb-iff, edition-iff, not-iff, and-eq-true-iff)
+
+-- a node of any kind can have no misses
+none-borne : (kind : NodeKind) → borne kind noMisses ≡ true
+unfolding withinRange
+none-borne kind = kept-borne kind noMisses refl (λ h. refl)
 
 -- a type whose four bytes, from k on, are there, and that is well formed
 pub record TypeKept (s : List ℕ) (k : ℕ) : Type 0 where
@@ -62,15 +75,21 @@ pub record CountKept (s : List ℕ) (k most : ℕ) : Type 0 where
   pub some : 1 ≤ byteAt s k
   pub few : byteAt s k ≤ most
 
--- node i, ten bytes from its start on
+-- D and W of node i, where D begins at k: in edition 2 four bytes that are there; and what is read for them is what the node can have
+pub record MissesKept (s : List ℕ) (i k : ℕ) : Type 0 where
+  pub whole : editionOf s ≡ 2 → k + 4 ≤ length s
+  pub bears : borne (kindOf (planOf s) i) (missesOr s k) ≡ true
+
+-- node i, ten bytes from its start on, and four more in edition 2
 pub record NodeKept (s : List ℕ) (i : ℕ) : Type 0 where
-  pub whole : nodeStart s i + 10 ≤ length s
+  pub whole : nodeStart s i + 10 + further s 4 ≤ length s
   pub kind : byteAt s (nodeStart s i) ≤ 2
   pub named : isNamed (parentNamed (byteAt s (nodeStart s i + 1))) ≡ true
   pub allowed : parentAllowed (planOf s) i ≡ true
   pub shallow : within (planOf s) 8 i ≡ true
   pub wanted : wellFormed (typeAt s (nodeStart s i + 2)) ≡ true
-  pub served : wellFormed (typeAt s (nodeStart s i + 6)) ≡ true
+  pub misses : borne (kindOf (planOf s) i) (missesOr s (nodeStart s i + 6)) ≡ true
+  pub served : wellFormed (typeAt s (servedAt s i)) ≡ true
 
 -- name i, a length byte and that many bytes from its start on, and no earlier name is the same
 pub record NameKept (s : List ℕ) (i : ℕ) : Type 0 where
@@ -81,20 +100,21 @@ pub record NameKept (s : List ℕ) (i : ℕ) : Type 0 where
       (33 ≤ byteAt s (nameStart s i + 1 + j)) × (byteAt s (nameStart s i + 1 + j) ≤ 126)
   pub new : (j : ℕ) → j < i → sameName s (nameStart s j) (nameStart s i) ≡ false
 
--- bytes that keep 1 to 9
+-- bytes that keep 1 to 9 and 19
 pub record FieldsKept (s : List ℕ) : Type 0 where
-  pub one : byteAt s 0 ≡ 1
+  pub edition : (editionOf s ≡ 1) ⊎ (editionOf s ≡ 2)
   pub p : PartKept s 1
   pub q : PartKept s 5
-  pub cores : CountKept s 9 8
-  pub supplies : (i : ℕ) → i < coresOf s → TypeKept s (supplyStart i)
+  pub spare : (j : ℕ) → j < further s 8 → byteAt s (9 + j) ≡ 0
+  pub cores : CountKept s (coresAt s) 8
+  pub supplies : (i : ℕ) → i < coresOf s → TypeKept s (supplyStart s i)
   pub size : CountKept s (nodesAt s) 64
   pub nodes : (i : ℕ) → i < sizeOf s → NodeKept s i
   pub count-there : namesAt s + 1 ≤ length s
   pub count : byteAt s (namesAt s) ≡ sizeOf s
   pub names : (i : ℕ) → i < sizeOf s → NameKept s i
 
--- bytes that keep 1 to 10
+-- bytes that keep 1 to 10 and 19
 pub record BytesKept (s : List ℕ) : Type 0 where
   pub fields : FieldsKept s
   pub ends : length s ≤ endAt s
@@ -126,27 +146,57 @@ module _ (s : List ℕ) where
     λ h. simp sentences (h .whole, (h .some, h .few)),
   )
 
-  -- node i is accepted exactly when it keeps 1 and 4 to 7
+  -- D and W of a node are accepted exactly when, in edition 2, they are there and such as the node can have
+  pub misses-kept : (i k : ℕ) → (checkMisses s i k ≡ Accepted) ↔ MissesKept s i k
+  unfolding checkMisses there
+  misses-kept i k = go (eqb (editionOf s) 2) refl
+    where
+      asked : Answer
+      asked =
+          first (test (leb (k + 2) (length s)) 1 k)
+          (first (test (leb (k + 2 + 2) (length s)) 1 (k + 2)) (test (borne (kindOf (planOf s) i) (missesAt s k)) 19 k))
+
+      go : (b : Bool) → eqb (editionOf s) 2 ≡ b → (cond b asked Accepted ≡ Accepted) ↔ MissesKept s i k
+      go true e =
+          let two = eqb-true (editionOf s) 2 e in
+          let same = misses-two s (editionOf s) k (missesAt s k) refl two refl in (
+            λ a. let h = simp sentences at a in record { whole = λ t. omega (arith, h .1 .0); bears = rw same at (h .1 .1) },
+            λ h. simp sentences (omega (arith, h .whole two), (omega (arith, h .whole two), rw (← same) at (h .bears))),
+          )
+      go false e =
+          let other = eqb-false (editionOf s) 2 e in (
+            λ a. record { whole = λ t. absurd (other t); bears = rw (← misses-not s (editionOf s) k refl other) (none-borne (kindOf (planOf s) i)) },
+            λ h. refl,
+          )
+
+  -- node i is accepted exactly when it keeps 1, 4 to 7 and 19
   pub node-kept : (i : ℕ) → (checkNode s i ≡ Accepted) ↔ NodeKept s i
-  unfolding checkNode checkKind checkParent there
+  unfolding checkNode checkKind checkParent there servedAt
   node-kept i = (
     λ e.
-        let h = simp (sentences, type-kept) at e in
+        let h = simp (sentences, type-kept, misses-kept) at e in
         record {
-          whole = omega (arith, h .1 .1 .1 .whole);
+          whole = omega (arith, h .1 .1 .1 .1 .whole);
           kind = h .0 .1;
           named = h .1 .0 .1 .0 .0;
           allowed = h .1 .0 .1 .0 .1;
           shallow = h .1 .0 .1 .1;
           wanted = h .1 .1 .0 .formed;
-          served = h .1 .1 .1 .formed;
+          misses = h .1 .1 .1 .0 .bears;
+          served = h .1 .1 .1 .1 .formed;
         },
     λ h.
-        simp (sentences, type-kept) (
+        simp (sentences, type-kept, misses-kept) (
           (omega (arith, h .whole), h .kind),
           (
             (omega (arith, h .whole), ((h .named, h .allowed), h .shallow)),
-            (record { whole = omega (arith, h .whole); formed = h .wanted }, record { whole = omega (arith, h .whole); formed = h .served }),
+            (
+              record { whole = omega (arith, h .whole); formed = h .wanted },
+              (
+                record { whole = λ two. omega (arith, h .whole, further-second s 4 two); bears = h .misses },
+                record { whole = omega (arith, h .whole); formed = h .served },
+              ),
+            ),
           ),
         ),
   )
@@ -174,16 +224,17 @@ module _ (s : List ℕ) where
   unfolding checkBytes
   bytes-checked = simp first-assoc
 
-  -- no check of a field refuses exactly when the bytes keep 1 to 9
+  -- no check of a field refuses exactly when the bytes keep 1 to 9 and 19
   pub fields-kept : (checkFields s ≡ Accepted) ↔ FieldsKept s
-  unfolding checkTick checkSupplies checkSupply checkNodes checkNames there coresOf
+  unfolding checkTick checkSpare spareAt checkSupplies checkSupply checkNodes checkNames there coresAt coresOf
   fields-kept = (
     λ e.
         let h = simp (sentences, part-kept, count-kept, type-kept, node-kept, name-kept) at e in
         record {
-          one = h .0 .1 .0;
+          edition = h .0 .1 .0;
           p = h .0 .1 .1 .0;
-          q = h .0 .1 .1 .1;
+          q = h .0 .1 .1 .1 .0;
+          spare = λ j l. h .0 .1 .1 .1 .1 j l .1;
           cores = h .1 .0 .0;
           supplies = h .1 .0 .1;
           size = h .1 .1 .0 .0;
@@ -194,7 +245,10 @@ module _ (s : List ℕ) where
         },
     λ h.
         simp (sentences, part-kept, count-kept, type-kept, node-kept, name-kept) (
-          (omega (arith, h .cores .whole), (h .one, (h .p, h .q))),
+          (
+            omega (arith, h .cores .whole),
+            (h .edition, (h .p, (h .q, λ j l. (omega (arith, h .cores .whole), h .spare j l)))),
+          ),
           ((h .cores, h .supplies), ((h .size, h .nodes), (h .count-there, (h .count, h .names)))),
         ),
   )
@@ -204,7 +258,7 @@ module _ (s : List ℕ) where
   unfolding checkEnd
   end-kept = (λ e. simp sentences at e, λ h. simp sentences h)
 
-  -- no check of the bytes refuses exactly when they keep 1 to 10
+  -- no check of the bytes refuses exactly when they keep 1 to 10 and 19
   pub bytes-kept : (checkBytes s ≡ Accepted) ↔ BytesKept s
   bytes-kept = (
     λ e.

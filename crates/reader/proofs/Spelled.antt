@@ -1,5 +1,5 @@
--- Bytes that keep 1 to 9 spell a sound plan value; what an accepted read and a refused one hand out. Assumes nothing.
-use Prim.Native.Nat.{ℕ, _≤_, _<_}
+-- Bytes that keep 1 to 9 and 19 spell a sound plan value; what an accepted read and a refused one hand out. Assumes nothing.
+use Prim.Native.Nat.{ℕ, _+_, _≤_, _<_}
 use mathlib.Core.Bool.{true}
 use mathlib.Core.List.{List}
 use mathlib.Core.Path.{_≡_, refl, sym, ap, _∙_}
@@ -8,19 +8,20 @@ use Rattle.ticks.specs.Times.{isFit as isFitTick}
 use Rattle.meaning.specs.Types.{wellFormed}
 use Rattle.answers.specs.declared.Answer.the-variants.{Accepted, Refused}
 use Rattle.answers.proofs.Laws.{first-accepted-left, first-accepted-right, accepts-true, accepts-false}
-use Rattle.plans.specs.Plan.{zeroPlan}
-use Rattle.plans.specs.Sound.{soundSupply, soundNode, sound}
+use Rattle.plans.specs.Plan.{zeroPlan, missesOf, noMisses}
+use Rattle.plans.specs.Sound.{soundSupply, soundMisses, soundNode, sound}
 use Rattle.plans.proofs.All.{all-true}
-use Rattle.plans.proofs.Kept.{counts-true}
+use Rattle.plans.proofs.Kept.{counts-true, is-edition, kept-plain}
 use Rattle.rules.specs.Check.{rules, checked, isFit}
-use Rattle.decode.specs.Positions.{coresOf, sizeOf}
-use Rattle.decode.specs.Decode.{supplyOf, nodeOf, planOf}
+use Rattle.decode.specs.Positions.{editionOf, coresOf, sizeOf, nodeStart}
+use Rattle.decode.specs.Decode.{missesOr, supplyOf, nodeOf, planOf}
+use Rattle.decode.proofs.Editions.{misses-not}
 use Rattle.decode.proofs.Entries.{supply-spelled, node-spelled}
 use Rattle.reader.specs.Read.{checkBytes, readAnswer, readPlan}
 use Rattle.reader.proofs.Accepts.{FieldsKept, bytes-kept}
 
 module _ (s : List ℕ) (h : FieldsKept s) where
-  -- the counts of bytes that keep 1 to 9
+  -- the counts of bytes that keep 1 to 9 and 19
   pub some-core : 1 ≤ coresOf s
   unfolding coresOf
   some-core = h .cores .some
@@ -42,19 +43,35 @@ module _ (s : List ℕ) (h : FieldsKept s) where
   unfolding soundSupply supplyOf
   supply-sound i l = ap wellFormed (supply-spelled s i l (omega (arith, eight-cores))) ∙ h .supplies i l .formed
 
+  -- so are the misses of each node
+  misses-sound : (i : ℕ) → i < sizeOf s → soundMisses (planOf s) i ≡ true
+  unfolding soundMisses nodeOf planOf
+  misses-sound i l =
+      let at : missesOf (planOf s) i ≡ missesOr s (nodeStart s i + 6) = ap (λ n. n .misses) (node-spelled s i l (omega (arith, sixty-four-nodes))) in
+      let first : editionOf s ≡ 1 → missesOr s (nodeStart s i + 6) ≡ noMisses =
+      λ one. sym (misses-not s (editionOf s) (nodeStart s i + 6) refl (λ two. omega arith)) in
+      rw (at, h .nodes i l .misses, kept-plain (editionOf s) (missesOr s (nodeStart s i + 6)) first)
+
   -- and each node
   node-sound : (i : ℕ) → i < sizeOf s → soundNode (planOf s) i ≡ true
   unfolding soundNode nodeOf
   node-sound i l =
       let at = node-spelled s i l (omega (arith, sixty-four-nodes)) in
       let kept = h .nodes i l in
-      rw (kept .allowed, kept .shallow, ap (λ n. wellFormed (n .wanted)) at ∙ kept .wanted, ap (λ n. wellFormed (n .served)) at ∙ kept .served)
+      rw (
+        kept .allowed,
+        kept .shallow,
+        ap (λ n. wellFormed (n .wanted)) at ∙ kept .wanted,
+        misses-sound i l,
+        ap (λ n. wellFormed (n .served)) at ∙ kept .served,
+      )
 
-  -- bytes that keep 1 to 9 spell a sound value
+  -- bytes that keep 1 to 9 and 19 spell a sound value
   pub spelled-sound : sound (planOf s) ≡ true
   unfolding sound planOf isFitTick
   spelled-sound =
       rw (
+        is-edition (editionOf s) (h .edition),
         counts-true (coresOf s) 8 some-core eight-cores,
         counts-true (sizeOf s) 64 some-node sixty-four-nodes,
         h .p .ranged,

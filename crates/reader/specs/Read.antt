@@ -1,5 +1,5 @@
--- Reading a plan file field by field, with every refusal and its place: document 01, "The plan file", "Refusal numbers" and the order below them.
--- Written from the table; that it accepts just the files of the plans that fit is the theorem of the crate `layout`. Assumes nothing.
+-- Reading a plan file field by field, with every refusal and its place: document 01, "The plan file", "Refusal numbers" and the order below them, and
+-- document 02, request 6. Written from the table; that it accepts just the files of the plans that fit is the theorem of the crate `layout`. Assumes nothing.
 use Prim.Native.Nat.{ℕ, _+_}
 use mathlib.Core.Bool.{cond, _&&_}
 use mathlib.Core.List.{List, []}
@@ -8,11 +8,12 @@ use lib.ListN.{length, take, drop}
 use Rattle.ticks.specs.Times.{inRange}
 use Rattle.answers.specs.Answers.{accepts, first, test, each}
 use Rattle.answers.specs.declared.Answer.{Answer}
-use Rattle.plans.specs.Plan.{zeroPlan}
-use Rattle.plans.specs.Sound.{counts, parentAllowed, within}
+use Rattle.answers.specs.declared.Answer.the-variants.{Accepted}
+use Rattle.plans.specs.Plan.{zeroPlan, kindOf}
+use Rattle.plans.specs.Sound.{counts, isEdition, parentAllowed, within, borne}
 use Rattle.rules.specs.Check.{rules}
-use Rattle.fields.specs.Fields.{byteAt, fourAt, there, checkType}
-use Rattle.decode.specs.Positions.{coresOf, supplyStart, nodesAt, sizeOf, nodeStart, nameStart, endAt}
+use Rattle.fields.specs.Fields.{byteAt, fourAt, missesAt, there, checkType}
+use Rattle.decode.specs.Positions.{editionOf, further, coresAt, coresOf, supplyStart, nodesAt, sizeOf, nodeStart, servedAt, nameStart, endAt}
 use Rattle.decode.specs.Decode.{parentNamed, isNamed, planOf}
 use Rattle.names.specs.Names.{checkNames}
 use Rattle.reader.specs.declared.Reading.{Reading}
@@ -21,8 +22,18 @@ use Rattle.reader.specs.declared.Reading.{Reading}
 unfoldable pub checkPart : List ℕ → ℕ → Answer
 checkPart s k = first (there s k 4) (test (inRange (fourAt s k)) 3 k)
 
+-- 02, of edition 2: "its second record is eight zero bytes"; "3 at a non-zero spare byte, each a field"
+unfoldable pub spareAt : List ℕ → ℕ → Answer
+spareAt s k = first (there s k 1) (test (eqb (byteAt s k) 0) 3 k)
+
+-- spare byte j of those that follow P and Q
+unfoldable pub checkSpare : List ℕ → ℕ → Answer
+checkSpare s j = spareAt s (9 + j)
+
 unfoldable pub checkTick : List ℕ → Answer
-checkTick s = first (there s 0 1) (first (test (eqb (byteAt s 0) 1) 2 0) (first (checkPart s 1) (checkPart s 5)))
+checkTick s =
+    first (there s 0 1)
+    (first (test (isEdition (editionOf s)) 2 0) (first (checkPart s 1) (first (checkPart s 5) (each (checkSpare s) (further s 8)))))
 
 -- a one-byte count at k, from 1 to `most`
 unfoldable pub checkCount : List ℕ → ℕ → ℕ → Answer
@@ -30,10 +41,10 @@ checkCount s k most = first (there s k 1) (test (counts (byteAt s k) most) 2 k)
 
 -- 01: "Supplies, count 1 to 8: C and T, two bytes each"
 unfoldable pub checkSupply : List ℕ → ℕ → Answer
-checkSupply s i = checkType s (supplyStart i)
+checkSupply s i = checkType s (supplyStart s i)
 
 unfoldable pub checkSupplies : List ℕ → Answer
-checkSupplies s = first (checkCount s 9 8) (each (checkSupply s) (coresOf s))
+checkSupplies s = first (checkCount s (coresAt s) 8) (each (checkSupply s) (coresOf s))
 
 -- 01: "kind (0 aligned leaf, 1 sliding leaf, 2 virtual host)"
 unfoldable pub checkKind : List ℕ → ℕ → Answer
@@ -45,11 +56,21 @@ checkParent s i k =
     first (there s k 1)
     (first (test (isNamed (parentNamed (byteAt s k)) && parentAllowed (planOf s) i) 6 k) (test (within (planOf s) 8 i) 7 k))
 
--- 01: "kind .., parent, wanted C and T, served C and T; ten bytes"
+-- 02, of D and W of node i, where D begins at k: "19 for bad D, W or a host with D above 0, at D's first byte, when they are read". A node of edition 1
+-- has no such fields.
+unfoldable pub checkMisses : List ℕ → ℕ → ℕ → Answer
+checkMisses s i k =
+    cond (eqb (editionOf s) 2)
+    (first (there s k 2) (first (there s (k + 2) 2) (test (borne (kindOf (planOf s) i) (missesAt s k)) 19 k)))
+    Accepted
+
+-- 01: "kind .., parent, wanted C and T, served C and T; ten bytes", and 02: D and W "after its wanted type"
 unfoldable pub checkNode : List ℕ → ℕ → Answer
 checkNode s i =
     let k = nodeStart s i in
-    first (checkKind s k) (first (checkParent s i (k + 1)) (first (checkType s (k + 2)) (checkType s (k + 6))))
+    first (checkKind s k)
+    (first (checkParent s i (k + 1))
+    (first (checkType s (k + 2)) (first (checkMisses s i (k + 6)) (checkType s (servedAt s i)))))
 
 -- 01: "Nodes, count 1 to 64"
 unfoldable pub checkNodes : List ℕ → Answer

@@ -1,11 +1,11 @@
-// The nodes: kind, parent, depth and types of each. The parent and the depth are asked of the plan value that the bytes spell.
+// The nodes: kind, parent, depth, types and misses of each. The parent, the depth and the kind are asked of the plan value that the bytes spell.
 ghost use mathlib.Core.Path.{_≡_};
 ghost use mathlib.Core.Bool.{_&&_};
 ghost use Prim.Native.Nat.{_≤_};
 ghost use Rattle.answers.specs.Answers.{each};
 ghost use Rattle.plans.specs.Sound.{parentAllowed};
 ghost use Rattle.decode.specs.Decode.{parentNamed, isNamed, planOf};
-ghost use Rattle.reader.specs.Read.{checkKind, checkParent, checkNode, checkNodes};
+ghost use Rattle.reader.specs.Read.{checkKind, checkParent, checkMisses, checkNode, checkNodes};
 use answers::Answer;
 use plans::Plan;
 
@@ -41,7 +41,8 @@ fn check_node(s: &[u8], plan: Plan, i: usize) -> Answer
     requires { ⌜ (plan ≡ planOf (now s)) × (i ≤ 255) ⌝ }
     ensures { λ r. ⌜ r ≡ checkNode (now (s .entry)) i ⌝ }
 {
-    let k = decode::nodes_at(s) + 1 + 10 * i;
+    let k = decode::nodes_at(s) + 1 + 10 * i + decode::further(s, 4 * i);
+    let last = k + 6 + decode::further(s, 4);
     let kind = check_kind(s, k);
     let Answer::Accepted = kind else {
         return kind;
@@ -54,7 +55,11 @@ fn check_node(s: &[u8], plan: Plan, i: usize) -> Answer
     let Answer::Accepted = wanted else {
         return wanted;
     };
-    fields::check_type(s, k + 6)
+    let misses = check_misses(s, plan, i, k + 6);
+    let Answer::Accepted = misses else {
+        return misses;
+    };
+    fields::check_type(s, last)
 }
 
 fn check_kind(s: &[u8], k: usize) -> Answer
@@ -93,4 +98,27 @@ fn is_allowed(plan: Plan, i: usize, b: u8) -> bool
         decode::is_named(decode::parent_named(b)),
         plans::is_parent_allowed(plan, i),
     )
+}
+
+// D and W of node i, where D begins at k in edition 2; edition 1 has none.
+fn check_misses(s: &[u8], plan: Plan, i: usize, k: usize) -> Answer
+    requires { ⌜ plan ≡ planOf (now s) ⌝ }
+    ensures { λ r. ⌜ r ≡ checkMisses (now (s .entry)) i k ⌝ }
+{
+    if decode::edition_of(s) != 2 {
+        return Answer::Accepted;
+    }
+    let d = fields::is_there(s, k, 2);
+    let Answer::Accepted = d else {
+        return d;
+    };
+    let second = k + 2;
+    let w = fields::is_there(s, second, 2);
+    let Answer::Accepted = w else {
+        return w;
+    };
+    let node = plans::node_at(plan, i);
+    let kind = node.kind;
+    let misses = fields::misses_at(s, k);
+    answers::tested(plans::are_misses_borne(kind, misses), 19, k)
 }

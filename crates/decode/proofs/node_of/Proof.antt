@@ -16,6 +16,15 @@ mul-k c = search needs
 add-k-2 : tie.Need-add-k-2
 add-k-2 c = search needs
 
+mul-further : tie.Need-mul-further
+mul-further c = search needs
+
+further-requires : tie.Need-further-requires
+further-requires c κs = search needs
+
+add-k-3 : tie.Need-add-k-3
+add-k-3 c = search needs
+
 byte-at-requires : tie.Need-byte-at-requires
 byte-at-requires c κs = search needs
 
@@ -40,8 +49,20 @@ add-type-at c = search needs
 type-at-requires : tie.Need-type-at-requires
 type-at-requires c κs = search needs
 
+add-misses-or : tie.Need-add-misses-or
+add-misses-or c = search needs
+
+misses-or-requires : tie.Need-misses-or-requires
+misses-or-requires c κs = search needs
+
 add-type-at-2 : tie.Need-add-type-at-2
 add-type-at-2 c = search needs
+
+further-requires-2 : tie.Need-further-requires-2
+further-requires-2 c κs = search needs
+
+add-type-at-3 : tie.Need-add-type-at-3
+add-type-at-3 c = search needs
 
 type-at-requires-2 : tie.Need-type-at-requires-2
 type-at-requires-2 c κs = search needs
@@ -57,6 +78,9 @@ node-of-spec =
     add-k
     mul-k
     add-k-2
+    mul-further
+    further-requires
+    add-k-3
     byte-at-requires
     kind-named-requires
     add-byte-at
@@ -65,6 +89,10 @@ node-of-spec =
     parent-or-requires
     add-type-at
     type-at-requires
+    add-misses-or
+    misses-or-requires
     add-type-at-2
+    further-requires-2
+    add-type-at-3
     type-at-requires-2
     returns)

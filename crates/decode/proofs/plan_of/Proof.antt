@@ -28,6 +28,9 @@ smaller-requires-2 c κs = search needs
 nodes-of-requires : tie.Need-nodes-of-requires
 nodes-of-requires c κs = search needs
 
+edition-of-requires : tie.Need-edition-of-requires
+edition-of-requires c κs = search needs
+
 returns : tie.Need-returns
 unfolding planOf
 returns c = cc
@@ -44,4 +47,5 @@ plan-of-spec =
     size-of-requires
     smaller-requires-2
     nodes-of-requires
+    edition-of-requires
     returns)

@@ -3,17 +3,23 @@ use borrow.Author.Needs.{needs}
 use Prim.Native.Nat.{_-_, _≤_}
 use mathlib.Core.Path.{_≡_}
 use lib.ListN.{length}
+use Rattle.decode.proofs.Bytes.{supply-read}
 use Rattle.decode.proofs.Filled.{filled-none, filled-more, filled-done}
-use Rattle.decode.specs.Positions.{supplyStart}
 use Rattle.decode.specs.Decode.{filled, supplyOf}
 use Rattle.decode.proofs.supplies_of.Statement.{statement}
 use Rattle.decode.proofs.supplies_of.Tie as tie
 
 abbrev Inv-loop : tie.InvT-loop
-Inv-loop s n all₀ i₀ all i = (i ≤ n) × (length all ≡ 8) × (all ≡ filled (supplyOf s) all₀ i)
+Inv-loop s n k all₀ i₀ all i = (i ≤ n) × (length all ≡ 8) × (all ≡ filled (supplyOf s) all₀ i)
 
 abbrev μ-loop : tie.MeasureT-loop
-μ-loop s n all₀ i₀ all i = n - i
+μ-loop s n k all₀ i₀ all i = n - i
+
+cores-at-requires : tie.Need-cores-at-requires Inv-loop μ-loop
+cores-at-requires c κs = search needs
+
+add-k : tie.Need-add-k Inv-loop μ-loop
+add-k c = search needs
 
 loop-holds : tie.Need-loop-holds Inv-loop μ-loop
 loop-holds c = search (needs, filled-none)
@@ -40,8 +46,7 @@ loop-less : tie.Need-loop-less Inv-loop μ-loop
 loop-less c = search needs
 
 loop-again : tie.Need-loop-again Inv-loop μ-loop
-unfolding supplyOf supplyStart
-loop-again c = search (needs, filled-more)
+loop-again c = search (needs, filled-more, supply-read)
 
 returns : tie.Need-returns Inv-loop μ-loop
 returns c = search filled-done
@@ -52,6 +57,8 @@ supplies-of-spec =
     (tie.spec
     Inv-loop
     μ-loop
+    cores-at-requires
+    add-k
     loop-holds
     mul-type-at
     add-type-at

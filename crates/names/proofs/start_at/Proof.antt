@@ -8,7 +8,7 @@ use Rattle.names.proofs.start_at.Statement.{statement}
 use Rattle.names.proofs.start_at.Tie as tie
 
 abbrev Inv-loop : tie.InvT-loop
-Inv-loop s i k₀ j₀ k j = (j ≤ i) × (k ≡ nameStart s j) × (k ≤ 3582 + 256 * j)
+Inv-loop s i k₀ j₀ k j = (j ≤ i) × (k ≡ nameStart s j) × (k ≤ 4610 + 256 * j)
 
 abbrev μ-loop : tie.MeasureT-loop
 μ-loop s i k₀ j₀ k j = i - j

@@ -17,6 +17,24 @@ mul-k c = search needs
 add-k-2 : tie.Need-add-k-2
 add-k-2 c = search needs
 
+mul-further : tie.Need-mul-further
+mul-further c = search needs
+
+further-requires : tie.Need-further-requires
+further-requires c κs = search needs
+
+add-k-3 : tie.Need-add-k-3
+add-k-3 c = search needs
+
+add-last : tie.Need-add-last
+add-last c = search needs
+
+further-requires-2 : tie.Need-further-requires-2
+further-requires-2 c κs = search needs
+
+add-last-2 : tie.Need-add-last-2
+add-last-2 c = search needs
+
 check-kind-requires : tie.Need-check-kind-requires
 check-kind-requires c κs = search needs
 
@@ -59,14 +77,26 @@ enum-told-6 c = search needs
 returns-3 : tie.Need-returns-3
 returns-3 c = search (node-from, first-past, first-stop)
 
-add-check-type-2 : tie.Need-add-check-type-2
-add-check-type-2 c = search needs
+add-check-misses : tie.Need-add-check-misses
+add-check-misses c = search needs
+
+check-misses-requires : tie.Need-check-misses-requires
+check-misses-requires c κs = search needs
+
+enum-told-7 : tie.Need-enum-told-7
+enum-told-7 c = search needs
+
+enum-told-8 : tie.Need-enum-told-8
+enum-told-8 c = search needs
+
+returns-4 : tie.Need-returns-4
+returns-4 c = search (node-from, first-past, first-stop)
 
 check-type-requires-2 : tie.Need-check-type-requires-2
 check-type-requires-2 c κs = search needs
 
-returns-4 : tie.Need-returns-4
-returns-4 c = search (node-from, first-past)
+returns-5 : tie.Need-returns-5
+returns-5 c = search (node-from, first-past)
 
 pub check-node-spec : {M : Type 1} → statement M
 check-node-spec =
@@ -76,6 +106,12 @@ check-node-spec =
     add-k
     mul-k
     add-k-2
+    mul-further
+    further-requires
+    add-k-3
+    add-last
+    further-requires-2
+    add-last-2
     check-kind-requires
     enum-told
     enum-told-2
@@ -90,6 +126,10 @@ check-node-spec =
     enum-told-5
     enum-told-6
     returns-3
-    add-check-type-2
+    add-check-misses
+    check-misses-requires
+    enum-told-7
+    enum-told-8
+    returns-4
     check-type-requires-2
-    returns-4)
+    returns-5)

@@ -5,16 +5,22 @@ use mathlib.Core.Path.{_≡_}
 use Rattle.answers.specs.Answers.{each}
 use Rattle.answers.specs.declared.Answer.the-variants.{Accepted}
 use Rattle.answers.proofs.Laws.{each-none, each-more, each-stop, each-done}
-use Rattle.decode.specs.Positions.{supplyStart}
 use Rattle.reader.specs.Read.{checkSupply}
+use Rattle.reader.proofs.Checks.{supply-from}
 use Rattle.reader.proofs.supplies.check_each.Statement.{statement}
 use Rattle.reader.proofs.supplies.check_each.Tie as tie
 
 abbrev Inv-loop : tie.InvT-loop
-Inv-loop s n i₀ i = (i ≤ n) × (each (checkSupply s) i ≡ Accepted)
+Inv-loop s n k i₀ i = (i ≤ n) × (each (checkSupply s) i ≡ Accepted)
 
 abbrev μ-loop : tie.MeasureT-loop
-μ-loop s n i₀ i = n - i
+μ-loop s n k i₀ i = n - i
+
+cores-at-requires : tie.Need-cores-at-requires Inv-loop μ-loop
+cores-at-requires c κs = search needs
+
+add-k : tie.Need-add-k Inv-loop μ-loop
+add-k c = search needs
 
 loop-holds : tie.Need-loop-holds Inv-loop μ-loop
 loop-holds c = search (needs, each-none)
@@ -35,8 +41,7 @@ enum-told-2 : tie.Need-enum-told-2 Inv-loop μ-loop
 enum-told-2 c = search needs
 
 returns : tie.Need-returns Inv-loop μ-loop
-unfolding checkSupply supplyStart
-returns c = search each-stop
+returns c = search (each-stop, supply-from)
 
 add-i : tie.Need-add-i Inv-loop μ-loop
 add-i c = search needs
@@ -45,8 +50,7 @@ loop-less : tie.Need-loop-less Inv-loop μ-loop
 loop-less c = search needs
 
 loop-again : tie.Need-loop-again Inv-loop μ-loop
-unfolding checkSupply supplyStart
-loop-again c = search (needs, each-more)
+loop-again c = search (needs, each-more, supply-from)
 
 returns-2 : tie.Need-returns-2 Inv-loop μ-loop
 returns-2 c = search each-done
@@ -57,6 +61,8 @@ check-each-spec =
     (tie.spec
     Inv-loop
     μ-loop
+    cores-at-requires
+    add-k
     loop-holds
     mul-check-type
     add-check-type

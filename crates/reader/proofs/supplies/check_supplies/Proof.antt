@@ -5,6 +5,9 @@ use Rattle.reader.proofs.Checks.{supplies-from}
 use Rattle.reader.proofs.supplies.check_supplies.Statement.{statement}
 use Rattle.reader.proofs.supplies.check_supplies.Tie as tie
 
+cores-at-requires : tie.Need-cores-at-requires
+cores-at-requires c κs = search needs
+
 cores-of-requires : tie.Need-cores-of-requires
 cores-of-requires c κs = search needs
 
@@ -30,6 +33,7 @@ pub check-supplies-spec : {M : Type 1} → statement M
 check-supplies-spec =
     tie.close
     (tie.spec
+    cores-at-requires
     cores-of-requires
     check-count-requires
     enum-told

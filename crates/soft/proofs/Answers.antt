@@ -1,5 +1,5 @@
 -- How the tests of the calls lead to each answer: one law a return. Assumes nothing.
-use Prim.Native.Nat.{ℕ, _-_, _*_, _/_, _%_, _≤_, _<_, min}
+use Prim.Native.Nat.{ℕ, _-_, _*_, _/_, _%_, _≤_, _<_}
 use mathlib.Core.Bool.{Bool, true, false, not}
 use mathlib.Core.Path.{_≡_, sym, _∙_}
 use native.Mathlib.Nat.{div-mul-le-self, mul-le-mul-left}
@@ -11,8 +11,8 @@ use Rattle.meaning.specs.Soft.{withinRange}
 use Rattle.meaning.specs.declared.SlotType.{SlotType}
 use Rattle.meaning.specs.declared.Misses.{Misses}
 use Rattle.meaning.proofs.WellFormed.{bounds, within-bounds}
-use Rattle.soft.specs.Formula.{divides, divided, lostOfMany, lostOfOne, windowsIn, lost, losesFew, allowed}
-use Rattle.soft.proofs.Lost.{closed as closed-form}
+use Rattle.soft.specs.Formula.{divides, divided, lostOfMany, windowsIn, lost, losesFew, allowed}
+use Rattle.soft.proofs.Lost.{many-in, many-lost, one-in, one-lost, unasked, whole-lost, none-lost, closed}
 
 -- a divides b, by the tests
 pub no-divisor : (a b : ℕ) → a < 1 → false ≡ divides a b
@@ -34,12 +34,10 @@ module _ (served wanted : SlotType) (r : Bool) (e : r ≡ divides (wanted .t) (s
     divided-so = rw multiple
 
     pub windows-of-many : served .t / wanted .t ≡ windowsIn served wanted
-    unfolding windowsIn
-    windows-of-many = rw multiple
+    windows-of-many = sym (many-in served wanted multiple)
 
     pub lost-of-many : (u : ℕ) → u ≡ lostOfMany served wanted → u ≡ lost served wanted
-    unfolding lost
-    lost-of-many u k = rw multiple k
+    lost-of-many u k = k ∙ sym (many-lost served wanted multiple)
 
   -- and is not
   module _ (h : r ≡ false) where
@@ -48,16 +46,13 @@ module _ (served wanted : SlotType) (r : Bool) (e : r ≡ divides (wanted .t) (s
     divided-else q k = rw (sym e ∙ h, k)
 
     pub windows-of-one : 1 ≡ windowsIn served wanted
-    unfolding windowsIn
-    windows-of-one = rw (sym e ∙ h)
+    windows-of-one = sym (one-in served wanted (sym e ∙ h))
 
     pub lost-whole : wanted .t / served .t * served .c < wanted .c → 1 ≡ lost served wanted
-    unfolding lost lostOfOne
-    lost-whole k = rw (sym e ∙ h, lt-ltb (wanted .t / served .t * served .c) (wanted .c) k)
+    lost-whole k = sym (one-lost served wanted (sym e ∙ h) ∙ whole-lost served wanted k)
 
     pub lost-none : wanted .c ≤ wanted .t / served .t * served .c → 0 ≡ lost served wanted
-    unfolding lost lostOfOne
-    lost-none k = rw (sym e ∙ h, le-ltb (wanted .t / served .t * served .c) (wanted .c) k)
+    lost-none k = sym (one-lost served wanted (sym e ∙ h) ∙ none-lost served wanted k)
 
 module _ (served wanted : SlotType) (g : wellFormed served ≡ true) (w : wellFormed wanted ≡ true) where
   -- what the served periods of a window owe it is small
@@ -72,8 +67,7 @@ module _ (served wanted : SlotType) (g : wellFormed served ≡ true) (w : wellFo
 
   -- none is lost where C' = 0
   pub asks-nothing : wanted .c < 1 → 0 ≡ lostOfMany served wanted
-  unfolding lostOfMany
-  asks-nothing h = rw (le-ltb 0 (wanted .c) (omega arith))
+  asks-nothing h = sym (unasked served wanted (omega arith))
 
   -- what a lost window goes without is within the window, and no zero divisor
   pub all-but-one : 1 ≤ wanted .c → wanted .c - 1 ≤ wanted .t
@@ -83,15 +77,12 @@ module _ (served wanted : SlotType) (g : wellFormed served ≡ true) (w : wellFo
   gone-some h = omega (arith, bounds wanted w)
 
   module _ (multiple : divides (wanted .t) (served .t) ≡ true) (asks : 1 ≤ wanted .c) where
-    closed : lostOfMany served wanted ≡ min (served .t / wanted .t) ((served .t - served .c) / (wanted .t - (wanted .c - 1)))
-    closed = closed-form served wanted (bounds served g) (bounds wanted w) multiple asks
-
     pub some-lost : (served .t - served .c) / (wanted .t - (wanted .c - 1)) < served .t / wanted .t
         → (served .t - served .c) / (wanted .t - (wanted .c - 1)) ≡ lostOfMany served wanted
-    some-lost h = omega (arith, closed)
+    some-lost h = omega (arith, closed served wanted (bounds served g) (bounds wanted w) multiple asks)
 
     pub all-lost : served .t / wanted .t ≤ (served .t - served .c) / (wanted .t - (wanted .c - 1)) → served .t / wanted .t ≡ lostOfMany served wanted
-    all-lost h = omega (arith, closed)
+    all-lost h = omega (arith, closed served wanted (bounds served g) (bounds wanted w) multiple asks)
 
 -- the tests before the formula, in their order
 module _ (served wanted : SlotType) (misses : Misses) (r : Bool) (e : r ≡ wellFormed served) where

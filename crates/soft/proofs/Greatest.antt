@@ -35,7 +35,8 @@ unfolding greatest
 greatest-above f zero x h l = absurd (omega arith)
 greatest-above f (suc n) x h l = go (f (suc n)) refl (greatest-above f n x) (eq-or-lt-of-le h) l
   where
-    go : (t : Bool) → f (suc n) ≡ t → (x ≤ n → greatest f n < x → f x ≡ false) → (x ≡ suc n) ⊎ (x < suc n) → cond t (suc n) (greatest f n) < x → f x ≡ false
+    go : (t : Bool) → f (suc n) ≡ t → (x ≤ n → greatest f n < x → f x ≡ false) → (x ≡ suc n) ⊎ (x < suc n) → cond t (suc n) (greatest f n) < x
+        → f x ≡ false
     go true e r i k = absurd (omega arith)
     go false e r (inl i) k = rw i e
     go false e r (inr i) k = r (omega arith) k

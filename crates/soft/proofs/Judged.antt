@@ -11,7 +11,7 @@ use Rattle.meaning.specs.Soft.{withinRange}
 use Rattle.meaning.specs.declared.SlotType.{SlotType}
 use Rattle.meaning.specs.declared.Misses.{Misses}
 use Rattle.meaning.specs.declared.Kind.the-variants.{Aligned}
-use Rattle.meaning.proofs.WellFormed.{Bounds, bounds, within-bounds, bounds-well}
+use Rattle.meaning.proofs.WellFormed.{bounds, within-bounds, bounds-well}
 use Rattle.owed.proofs.Lowest.{le-or-lt}
 use Rattle.answers.specs.Answers.{Place, placed}
 use Rattle.types.specs.Verdict.{Said, holds, short, refused, said, judged}
@@ -79,8 +79,11 @@ module _ (served wanted : SlotType) (misses : Misses) (g : wellFormed served ≡
       let kept : wellFormed ((K - u) of K) ≡ true =
       bounds-well _ record { some = omega (arith, few); most = omega (arith, few); fits = omega arith } in
       let wants : wellFormed ((misses .w - misses .d) of misses .w) ≡ true =
-      bounds-well _ record { some = range .some; most = omega (arith, range); fits = omega arith } in
-      (leastOnes Aligned ((K - u) of K) Aligned ((misses .w - misses .d) of misses .w), rw (← all, ← some) (e ∙ worst-judged K u (misses .d) (misses .w) kept (omega (arith, few)) lost-fits wants (range .fits)))
+      bounds-well _ record { some = range .some; most = omega (arith, range); fits = omega arith } in (
+        leastOnes Aligned ((K - u) of K) Aligned ((misses .w - misses .d) of misses .w),
+        rw (← all, ← some)
+            (e ∙ worst-judged K u (misses .d) (misses .w) kept (omega (arith, few)) lost-fits wants (range .fits)),
+      )
 
   module _ (v : Verdict) (told : said v ≡ judged Aligned ((K - u) of K) Aligned ((misses .w - misses .d) of misses .w)) where
     pub holds-few : (m : ℕ) → v ≡ Holds m → true ≡ losesFew served wanted misses

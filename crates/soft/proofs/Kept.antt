@@ -1,13 +1,13 @@
 -- The promises on soft types, kept: what the formula says is so by the meaning. Assumes nothing.
 use Prim.Native.Nat.{ℕ, zero, suc, _-_, _*_, _/_, _%_, _≤_, _<_, _∣_}
 use mathlib.Core.Bool.{Bool, true, false, _||_}
-use mathlib.Core.Logic.{_↔_, _⊎_, inl, inr}
+use mathlib.Core.Logic.{_⊎_, inl, inr}
 use mathlib.Core.Path.{_≡_, refl, sym, ap, _∙_}
 use native.Mathlib.Nat.{div-mul-cancel, mod-lt, le-trans, eq-or-lt-of-le, le-of-suc-le-suc}
 use native.Mathlib.Omega.{arith}
 use lib.Dec.{leb}
-use borrow.Author.Tests.{le-leb, leb-true, leb-false}
-use Rattle.meaning.specs.Allocation.{Allocation, ones}
+use borrow.Author.Tests.{leb-true, leb-false}
+use Rattle.meaning.specs.Allocation.{Allocation}
 use Rattle.meaning.specs.Types.{_of_, wellFormed, Honours}
 use Rattle.meaning.specs.Soft.{withinRange, met, missed, StandsInSoft}
 use Rattle.meaning.specs.Written.{written}
@@ -25,7 +25,7 @@ use Rattle.windows.proofs.Hard.{hard-of-soft, soft-of-hard, stands-in-hard, sta
 use Rattle.windows.proofs.Losing.{Losing, Meeting}
 use Rattle.windows.proofs.Longer.{longer-loses-none, longer-loses-all}
 use Rattle.windows.proofs.Missed.{met-or-missed, misses-few, few-honours}
-use Rattle.soft.specs.Formula.{divides, divided, greatest, mostTo, windowsIn, lost, loses, worst, losesFew, allowed}
+use Rattle.soft.specs.Formula.{divides, divided, mostTo, windowsIn, lost, loses, worst, losesFew, allowed}
 use Rattle.soft.specs.Promises.{
   MostMissed,
   Missing,
@@ -130,7 +130,8 @@ module _ (served wanted : SlotType) (misses : Misses) (g : wellFormed served ≡
   shows : allowed served wanted misses ≡ false → Missing served wanted misses
   unfolding worst
   shows e =
-      let (b, l) = most-from (loses (windowsIn served wanted) (lost served wanted) (misses .w)) (windowsIn served wanted) (misses .d) (leb-false _ _ (sym by-worst ∙ e)) in
+      let (b, l) =
+      most-from (loses (windowsIn served wanted) (lost served wanted) (misses .w)) (windowsIn served wanted) (misses .d) (leb-false _ _ (sym by-worst ∙ e)) in
       let most = loses-exactly served wanted g w h (misses .w) b in
       record { allocation = most .allocation; honours = most .honours; stretch = b; too-many = rw (most .just) l }
 

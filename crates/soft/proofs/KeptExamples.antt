@@ -1,13 +1,10 @@
 -- Why the examples hold: the checker computes them. Assumes nothing.
-use Prim.Native.Nat.{ℕ, _+_, _*_, _%_, _≤_}
-use mathlib.Core.List.{map}
+use Prim.Native.Nat.{ℕ, _+_, _*_}
 use mathlib.Core.Path.{_≡_, refl, sym, ap, _∙_}
-use native.Mathlib.Nat.{mul-add-mod-self-right, zero-add, add-zero, le-refl}
-use native.Mathlib.Omega.{arith}
-use lib.ListN.{getD}
+use native.Mathlib.Nat.{mul-add-mod-self-right, add-zero, le-refl}
 use Rattle.meaning.specs.Allocation.{ones}
 use Rattle.meaning.specs.Types.{_of_, wellFormed, Honours}
-use Rattle.meaning.specs.Soft.{withinRange, met, missed}
+use Rattle.meaning.specs.Soft.{withinRange, met}
 use Rattle.meaning.specs.declared.Kind.the-variants.{Aligned}
 use Rattle.owed.proofs.Ones.{ones-later, ones-ext}
 use Rattle.soft.specs.Formula.{
@@ -27,7 +24,7 @@ use Rattle.soft.specs.Formula.{
   losesFew,
   allowed,
 }
-use Rattle.soft.specs.Examples.{seven, Example, rows, worked, Table, NotDivided}
+use Rattle.soft.specs.Examples.{seven, Example, Table, NotDivided}
 
 pub table : Table
 unfolding divides divided greatest sumTo mostTo canLose lostOfMany lostOfOne windowsIn lost covered loses worst losesFew allowed wellFormed withinRange

@@ -1,8 +1,8 @@
 -- What a stretch loses is what (K − u, K) does not owe it, so the worst stretch loses all but the least that it owes any. Assumes nothing.
-use Prim.Native.Nat.{ℕ, zero, suc, _+_, _-_, _*_, _/_, _%_, _≤_, _<_, min, max}
+use Prim.Native.Nat.{ℕ, zero, suc, _+_, _-_, _*_, _/_, _≤_, _<_, min, max}
 use mathlib.Core.Bool.{true}
-use mathlib.Core.Path.{_≡_, refl, sym, ap, _∙_}
-use native.Mathlib.Nat.{suc-mul, add-zero, zero-add, zero-mul, lt-div-mul-add, max-eq-right}
+use mathlib.Core.Path.{_≡_, refl, ap, _∙_}
+use native.Mathlib.Nat.{suc-mul, zero-add, zero-mul, lt-div-mul-add, max-eq-right}
 use native.Mathlib.Numerals.{add-one}
 use native.Mathlib.Omega.{arith}
 use lib.Arith.{sub-sub-self}
@@ -13,7 +13,7 @@ use Rattle.meaning.specs.Written.{written}
 use Rattle.owed.proofs.Owed.{owed}
 use Rattle.owed.proofs.Ones.{ones-split, ones-ext, ones-all}
 use Rattle.owed.proofs.Attained.{ones-and-zeros, written-ones}
-use Rattle.soft.specs.Formula.{sumTo, mostTo, covered, loses, worst}
+use Rattle.soft.specs.Formula.{sumTo, mostTo, covered, loses}
 
 -- a window whose slots are all set has as many ones as slots
 ones-set : (α : Allocation) (s n : ℕ) → ((m : ℕ) → s ≤ m → m < s + n → α m ≡ true) → ones α s n ≡ n

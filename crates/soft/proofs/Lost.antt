@@ -1,7 +1,7 @@
 -- How many windows a served period can lose: in closed form, and as the laws on windows ask for it. Assumes nothing.
-use Prim.Native.Nat.{ℕ, suc, _+_, _-_, _*_, _/_, _≤_, _<_, _∣_, min}
-use mathlib.Core.Bool.{Bool, true, false, _||_, false≢true}
-use mathlib.Core.Path.{_≡_, refl, sym, ap, _∙_, subst₂}
+use Prim.Native.Nat.{ℕ, suc, _+_, _-_, _*_, _/_, _≤_, _<_, min}
+use mathlib.Core.Bool.{Bool, true, false, false≢true}
+use mathlib.Core.Path.{_≡_, refl, sym, ap, _∙_}
 use mathlib.Core.Logic.{_⊎_, inl, inr}
 use native.Mathlib.Nat.{div-self, div-eq-of-lt, dvd-refl, div-mul-cancel, div-le-self, le-div-iff-mul-le, le-of-dvd, add-mul, mul-add, one-mul, zero-mul, add-sub-of-le}
 use native.Mathlib.Omega.{arith}
@@ -29,6 +29,46 @@ balance x K a t h l =
 -- what a lost window goes without
 abbrev pub gone : SlotType → ℕ
 gone wanted = wanted .t - (wanted .c - 1)
+
+-- K and u by the cases of the formula
+module _ (served wanted : SlotType) where
+  -- T = K·T'
+  module _ (multiple : divides (wanted .t) (served .t) ≡ true) where
+    pub many-in : windowsIn served wanted ≡ served .t / wanted .t
+    unfolding windowsIn
+    many-in = rw multiple
+
+    pub many-lost : lost served wanted ≡ lostOfMany served wanted
+    unfolding lost
+    many-lost = rw multiple
+
+  -- where a window asks for nothing none is lost
+  pub unasked : wanted .c ≡ 0 → lostOfMany served wanted ≡ 0
+  unfolding lostOfMany
+  unasked e = rw (le-ltb 0 (wanted .c) (omega arith))
+
+  -- T divides T', or neither divides the other
+  module _ (single : divides (wanted .t) (served .t) ≡ false) where
+    pub one-in : windowsIn served wanted ≡ 1
+    unfolding windowsIn
+    one-in = rw single
+
+    pub one-lost : lost served wanted ≡ lostOfOne served wanted
+    unfolding lost
+    one-lost = rw single
+
+    periods : divided served wanted ≡ true → wanted .t ≡ wanted .t / served .t * served .t
+    unfolding divided
+    periods h = sym (div-mul-cancel (served .t) (divides-true (served .t) (wanted .t) (rw single at h) .1))
+
+  -- there the window is lost, or none is
+  pub whole-lost : wanted .t / served .t * served .c < wanted .c → lostOfOne served wanted ≡ 1
+  unfolding lostOfOne
+  whole-lost l = rw (lt-ltb (wanted .t / served .t * served .c) (wanted .c) l)
+
+  pub none-lost : wanted .c ≤ wanted .t / served .t * served .c → lostOfOne served wanted ≡ 0
+  unfolding lostOfOne
+  none-lost h = rw (le-ltb (wanted .t / served .t * served .c) (wanted .c) h)
 
 module _ (served wanted : SlotType) (well : Bounds served) (fine : Bounds wanted) where
   -- T = K·T'
@@ -94,11 +134,6 @@ module _ (served wanted : SlotType) (well : Bounds served) (fine : Bounds wanted
               ∙ few-lose (suc u) (omega arith) (le-div-iff-mul-le positive .0 (omega arith))))
           go (inr l) = omega (arith, asked-most, held)
 
-    -- none where it asks for nothing
-    pub unasked : wanted .c ≡ 0 → lostOfMany served wanted ≡ 0
-    unfolding lostOfMany
-    unasked e = rw (le-ltb 0 (wanted .c) (omega arith))
-
     -- u as the laws on windows ask for it
     shorter : Shorter served wanted (served .t / wanted .t) (lostOfMany served wanted)
     unfolding canLose
@@ -109,7 +144,7 @@ module _ (served wanted : SlotType) (well : Bounds served) (fine : Bounds wanted
       within = within (le-or-lt 1 (wanted .c));
       enough = enough (le-or-lt 1 (wanted .c));
       greatest = above;
-      none = unasked;
+      none = unasked served wanted;
     }
       where
         K : ℕ
@@ -120,52 +155,21 @@ module _ (served wanted : SlotType) (well : Bounds served) (fine : Bounds wanted
 
         within : (1 ≤ wanted .c) ⊎ (wanted .c < 1) → u ≤ K
         within (inl asks) = asked-most asks
-        within (inr nothing) = rw (unasked (omega arith)) (omega arith)
+        within (inr nothing) = rw (unasked served wanted (omega arith)) (omega arith)
 
         enough : (1 ≤ wanted .c) ⊎ (wanted .c < 1) → served .c ≤ u * (wanted .c - 1) + (K - u) * wanted .t
         enough (inl asks) = leb-true (served .c) _ (asked-lost asks)
-        enough (inr nothing) = rw (unasked (omega arith)) (leb-true (served .c) _ lose-none)
+        enough (inr nothing) = rw (unasked served wanted (omega arith)) (leb-true (served .c) _ lose-none)
 
         above : u < K → 1 ≤ wanted .c → suc u * (wanted .c - 1) + (K - suc u) * wanted .t < served .c
         above l asks = leb-false (served .c) _ (asked-above asks (suc u) l (omega arith))
-
-    many-in : windowsIn served wanted ≡ served .t / wanted .t
-    unfolding windowsIn
-    many-in = rw multiple
-
-    many-lost : lost served wanted ≡ lostOfMany served wanted
-    unfolding lost
-    many-lost = rw multiple
-
-  -- T divides T', or neither divides the other
-  module _ (single : divides (wanted .t) (served .t) ≡ false) where
-    one-in : windowsIn served wanted ≡ 1
-    unfolding windowsIn
-    one-in = rw single
-
-    one-lost : lost served wanted ≡ lostOfOne served wanted
-    unfolding lost
-    one-lost = rw single
-
-    periods : divided served wanted ≡ true → wanted .t ≡ wanted .t / served .t * served .t
-    unfolding divided
-    periods h = sym (div-mul-cancel (served .t) (divides-true (served .t) (wanted .t) (rw single at h) .1))
-
-  -- the window is lost, or none is
-  whole-lost : wanted .t / served .t * served .c < wanted .c → lostOfOne served wanted ≡ 1
-  unfolding lostOfOne
-  whole-lost l = rw (lt-ltb (wanted .t / served .t * served .c) (wanted .c) l)
-
-  none-lost : wanted .c ≤ wanted .t / served .t * served .c → lostOfOne served wanted ≡ 0
-  unfolding lostOfOne
-  none-lost h = rw (le-ltb (wanted .t / served .t * served .c) (wanted .c) h)
 
   one-most : lostOfOne served wanted ≤ 1
   one-most = go (le-or-lt (wanted .c) (wanted .t / served .t * served .c))
     where
       go : (wanted .c ≤ wanted .t / served .t * served .c) ⊎ (wanted .t / served .t * served .c < wanted .c) → lostOfOne served wanted ≤ 1
-      go (inl h) = rw (none-lost h) (omega arith)
-      go (inr l) = rw (whole-lost l) (omega arith)
+      go (inl h) = rw (none-lost served wanted h) (omega arith)
+      go (inr l) = rw (whole-lost served wanted l) (omega arith)
 
   -- there is a window, there are at most 4,096, and no more than there are can be lost
   pub counts : (1 ≤ windowsIn served wanted) × (windowsIn served wanted ≤ 4096) × (lost served wanted ≤ windowsIn served wanted)
@@ -174,9 +178,9 @@ module _ (served wanted : SlotType) (well : Bounds served) (fine : Bounds wanted
       go : (t : Bool) → divides (wanted .t) (served .t) ≡ t
           → (1 ≤ windowsIn served wanted) × (windowsIn served wanted ≤ 4096) × (lost served wanted ≤ windowsIn served wanted)
       go true e =
-          rw (many-in e, many-lost e)
+          rw (many-in served wanted e, many-lost served wanted e)
           (some-windows e, omega (arith, well .most, div-le-self (served .t) (wanted .t)), shorter e .within)
-      go false e = rw (one-in e, one-lost e) (omega arith, omega arith, one-most)
+      go false e = rw (one-in served wanted e, one-lost served wanted e) (omega arith, omega arith, one-most)
 
   -- of each K windows u can be lost and no more
   pub losing : divided served wanted ≡ true → Losing served wanted (windowsIn served wanted) (lost served wanted)
@@ -185,11 +189,13 @@ module _ (served wanted : SlotType) (well : Bounds served) (fine : Bounds wanted
       go : (t : Bool) → divides (wanted .t) (served .t) ≡ t
           → (wanted .c ≤ wanted .t / served .t * served .c) ⊎ (wanted .t / served .t * served .c < wanted .c)
           → Losing served wanted (windowsIn served wanted) (lost served wanted)
-      go true e i = rw (many-in e, many-lost e) (shorter-loses served wanted _ _ (shorter e))
+      go true e i = rw (many-in served wanted e, many-lost served wanted e) (shorter-loses served wanted _ _ (shorter e))
       go false e (inl enough) =
-          rw (one-in e, one-lost e, none-lost enough) (longer-loses-none served wanted (wanted .t / served .t) (well .fits) (periods e h) enough)
+          rw (one-in served wanted e, one-lost served wanted e, none-lost served wanted enough)
+          (longer-loses-none served wanted (wanted .t / served .t) (well .fits) (periods served wanted e h) enough)
       go false e (inr short) =
-          rw (one-in e, one-lost e, whole-lost short) (longer-loses-all served wanted (wanted .t / served .t) (well .fits) (periods e h) short)
+          rw (one-in served wanted e, one-lost served wanted e, whole-lost served wanted short)
+          (longer-loses-all served wanted (wanted .t / served .t) (well .fits) (periods served wanted e h) short)
 
   -- where T = T' both cases say the same
   pub both-agree : served .t ≡ wanted .t → lostOfMany served wanted ≡ lostOfOne served wanted
@@ -208,11 +214,11 @@ module _ (served wanted : SlotType) (well : Bounds served) (fine : Bounds wanted
       few (inl asks) h =
           let short : served .t - served .c < gone wanted = omega (arith, well .fits, fine .fits) in
           omega (arith, closed multiple asks, div-eq-of-lt short)
-      few (inr nothing) h = unasked multiple (omega arith)
+      few (inr nothing) h = unasked served wanted (omega arith)
 
       go : (wanted .c ≤ served .c) ⊎ (served .c < wanted .c) → lostOfMany served wanted ≡ lostOfOne served wanted
-      go (inl h) = few (le-or-lt 1 (wanted .c)) h ∙ sym (none-lost (omega (arith, owing)))
+      go (inl h) = few (le-or-lt 1 (wanted .c)) h ∙ sym (none-lost served wanted (omega (arith, owing)))
       go (inr l) =
           let room : 1 ≤ (served .t - served .c) / gone wanted =
           le-div-iff-mul-le {k = gone wanted} {x = 1} {y = served .t - served .c} (omega (arith, fine .fits)) .1 (omega (arith, one-mul (gone wanted), fine .fits)) in
-          omega (arith, closed multiple (omega arith), once, whole-lost (omega (arith, owing)))
+          omega (arith, closed multiple (omega arith), once, whole-lost served wanted (omega (arith, owing)))

@@ -5,7 +5,7 @@ use mathlib.Core.List.{List, [], _∷_, map}
 use mathlib.Core.Path.{_≡_}
 use lib.Dec.{eqb}
 use lib.ListN.{getD}
-use Rattle.meaning.specs.Allocation.{Allocation, ones}
+use Rattle.meaning.specs.Allocation.{Allocation}
 use Rattle.meaning.specs.Types.{_of_, Honours}
 use Rattle.meaning.specs.Soft.{missed}
 use Rattle.meaning.specs.declared.SlotType.{SlotType}

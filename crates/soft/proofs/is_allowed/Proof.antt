@@ -5,12 +5,6 @@ use Rattle.soft.proofs.Answers.{served-unfit, wanted-unfit, misses-unfi
 use Rattle.types.proofs.Answers.{formed}
 use Rattle.soft.proofs.is_allowed.Statement.{statement}
 use Rattle.soft.proofs.is_allowed.Tie as tie
-use Rattle.soft.proofs.is_allowed.Reads as reads
-use Rattle.soft.proofs.is_allowed.Lts as lts
-use Rattle.meaning.proofs.is_well_formed.Reads as is-well-formed-reads
-use Rattle.meaning.proofs.is_within_range.Reads as is-within-range-reads
-use Rattle.soft.proofs.is_divided.Reads as is-divided-reads
-use Rattle.soft.proofs.loses_few.Reads as loses-few-reads
 
 is-well-formed-requires : tie.Need-is-well-formed-requires
 is-well-formed-requires c κs = search needs
@@ -37,7 +31,13 @@ returns-4 : tie.Need-returns-4
 returns-4 c = search (not-divided, not-true, not-false)
 
 loses-few-requires : tie.Need-loses-few-requires
-loses-few-requires c κs = ((search formed, formed _ _ (c .before .before .before .before .before .is-well-formed2 .ensures) (c .before .before .before .before .if2 .left)), ranged _ _ (c .before .before .before .is-within-range .ensures) (c .before .before .if3 .left))
+loses-few-requires c κs = (
+  (
+    search formed,
+    formed _ _ (c .before .before .before .before .before .is-well-formed2 .ensures) (c .before .before .before .before .if2 .left),
+  ),
+  ranged _ _ (c .before .before .before .is-within-range .ensures) (c .before .before .if3 .left),
+)
 
 returns-5 : tie.Need-returns-5
 returns-5 c = search (by-formula, not-false)

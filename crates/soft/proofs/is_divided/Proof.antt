@@ -3,9 +3,6 @@ use borrow.Author.Needs.{needs}
 use Rattle.soft.proofs.Answers.{divided-so, divided-else}
 use Rattle.soft.proofs.is_divided.Statement.{statement}
 use Rattle.soft.proofs.is_divided.Tie as tie
-use Rattle.soft.proofs.is_divided.Reads as reads
-use Rattle.soft.proofs.is_divided.Lts as lts
-use Rattle.soft.proofs.is_multiple.Reads as is-multiple-reads
 
 is-multiple-requires : tie.Need-is-multiple-requires
 is-multiple-requires c κs = search needs

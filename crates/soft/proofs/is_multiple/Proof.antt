@@ -3,8 +3,6 @@ use borrow.Author.Needs.{needs}
 use Rattle.soft.proofs.Answers.{no-divisor, by-rest}
 use Rattle.soft.proofs.is_multiple.Statement.{statement}
 use Rattle.soft.proofs.is_multiple.Tie as tie
-use Rattle.soft.proofs.is_multiple.Reads as reads
-use Rattle.soft.proofs.is_multiple.Lts as lts
 
 returns : tie.Need-returns
 returns c = search no-divisor

@@ -4,11 +4,6 @@ use Rattle.soft.proofs.Answers.{misses-fit}
 use Rattle.soft.proofs.Judged.{lost-fits, holds-few, short-many, never-refused}
 use Rattle.soft.proofs.loses_few.Statement.{statement}
 use Rattle.soft.proofs.loses_few.Tie as tie
-use Rattle.soft.proofs.loses_few.Reads as reads
-use Rattle.soft.proofs.loses_few.Lts as lts
-use Rattle.soft.proofs.windows_in.Reads as windows-in-reads
-use Rattle.soft.proofs.windows_lost.Reads as windows-lost-reads
-use Rattle.types.proofs.judge.Reads as judge-reads
 
 windows-in-requires : tie.Need-windows-in-requires
 windows-in-requires c κs = search needs
@@ -20,7 +15,7 @@ sub-t10 : tie.Need-sub-t10
 sub-t10 c = search lost-fits
 
 sub-t10-2 : tie.Need-sub-t10-2
-sub-t10-2 c = search misses-fit
+sub-t10-2 c = search (needs, misses-fit)
 
 judge-requires : tie.Need-judge-requires
 judge-requires c κs = search needs

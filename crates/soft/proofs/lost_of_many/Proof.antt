@@ -1,11 +1,8 @@
 -- `soft::lost_of_many` meets its contract. Assumes nothing.
-use borrow.Author.Needs.{needs}
 use Rattle.types.proofs.Windows.{period-positive, count-le}
 use Rattle.soft.proofs.Answers.{asks-nothing, all-but-one, gone-some, some-lost, all-lost}
 use Rattle.soft.proofs.lost_of_many.Statement.{statement}
 use Rattle.soft.proofs.lost_of_many.Tie as tie
-use Rattle.soft.proofs.lost_of_many.Reads as reads
-use Rattle.soft.proofs.lost_of_many.Lts as lts
 
 returns : tie.Need-returns
 returns c = search asks-nothing

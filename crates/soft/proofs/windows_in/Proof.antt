@@ -4,9 +4,6 @@ use Rattle.types.proofs.Windows.{period-positive}
 use Rattle.soft.proofs.Answers.{windows-of-many, windows-of-one}
 use Rattle.soft.proofs.windows_in.Statement.{statement}
 use Rattle.soft.proofs.windows_in.Tie as tie
-use Rattle.soft.proofs.windows_in.Reads as reads
-use Rattle.soft.proofs.windows_in.Lts as lts
-use Rattle.soft.proofs.is_multiple.Reads as is-multiple-reads
 
 is-multiple-requires : tie.Need-is-multiple-requires
 is-multiple-requires c κs = search needs

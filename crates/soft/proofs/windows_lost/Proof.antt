@@ -5,10 +5,6 @@ use Rattle.types.proofs.Windows.{period-positive}
 use Rattle.soft.proofs.Answers.{multiple, lost-of-many, lost-whole, lost-none, owed-small}
 use Rattle.soft.proofs.windows_lost.Statement.{statement}
 use Rattle.soft.proofs.windows_lost.Tie as tie
-use Rattle.soft.proofs.windows_lost.Reads as reads
-use Rattle.soft.proofs.windows_lost.Lts as lts
-use Rattle.soft.proofs.is_multiple.Reads as is-multiple-reads
-use Rattle.soft.proofs.lost_of_many.Reads as lost-of-many-reads
 
 is-multiple-requires : tie.Need-is-multiple-requires
 is-multiple-requires c κs = search needs

@@ -1,29 +1,33 @@
 -- From the layout back to accepted checks: bytes that begin with the file of a sound value and its names spell that value and those names, and keep
--- 1 to 9. Assumes nothing.
+-- 1 to 9 and 19. Assumes nothing.
 use Prim.Native.Nat.{ℕ, zero, suc, _+_, _*_, _≤_, _<_}
 use mathlib.Core.Bool.{Bool, true, false, and-eq-true-iff}
 use mathlib.Core.List.{List, []}
+use mathlib.Core.Logic.{_⊎_, inl, inr}
 use mathlib.Core.Path.{_≡_, refl, sym, ap, subst, _∙_}
 use native.Mathlib.Nat.{zero-add}
 use native.Mathlib.Omega.{arith}
+use lib.Dec.{eqb}
 use lib.ListN.{length, getD, take, length-append}
 use lib.Seq.{ext-getD, getD-take, length-take-le}
+use borrow.Author.Tests.{eq-eqb}
 use Rattle.ticks.specs.Times.{inRange, isFit}
 use Rattle.ticks.proofs.Answers.{fit}
 use Rattle.meaning.specs.Types.{wellFormed}
 use Rattle.meaning.specs.declared.SlotType.{SlotType}
-use Rattle.meaning.proofs.WellFormed.{bounds}
-use Rattle.plans.specs.Plan.{zeroType, zeroNode, supplyAt, nodeAt, parentOf, Tidy}
-use Rattle.plans.specs.Sound.{Sound, parentAllowed, within, sound}
+use Rattle.meaning.proofs.WellFormed.{bounds, within-bounds}
+use Rattle.plans.specs.Plan.{zeroType, zeroNode, noMisses, supplyAt, nodeAt, kindOf, parentOf, missesOf, isHost, Tidy}
+use Rattle.plans.specs.Sound.{Sound, parentAllowed, within, borne}
 use Rattle.plans.specs.declared.NodeKind.{NodeKind}
 use Rattle.plans.specs.declared.NodeKind.the-variants.{AlignedLeaf, SlidingLeaf, Host}
 use Rattle.plans.specs.declared.Plan.{Plan}
 use Rattle.plans.proofs.Depth.{depth-within, has-depth}
 use Rattle.plans.proofs.Entries.{supply-at-element, node-at-element}
+use Rattle.plans.proofs.Kept.{kept-borne}
 use Rattle.plans.proofs.Parents.{allowed-allows}
 use Rattle.fields.specs.Fields.{byteAt, fourAt}
-use Rattle.decode.specs.Positions.{coresOf, supplyStart, nodesAt, sizeOf, nodeStart, namesAt, nameStart, endAt}
-use Rattle.decode.specs.Decode.{parentNamed, isNamed, supplyOf, nodeOf, planOf}
+use Rattle.decode.specs.Positions.{editionOf, further, coresAt, coresOf, supplyStart, servedAt, nodesAt, sizeOf, nodeStart, namesAt, nameStart, endAt}
+use Rattle.decode.specs.Decode.{parentNamed, isNamed, missesOr, supplyOf, nodeOf, planOf}
 use Rattle.decode.specs.declared.Named.the-variants.{Parent as names-parent}
 use Rattle.decode.proofs.Entries.{filled-is}
 use Rattle.names.specs.Names.{sameName}
@@ -32,9 +36,10 @@ use Rattle.layout.specs.Layout.{twoBytes, fourBytes, typeBytes, kindByte
 use Rattle.layout.specs.Promises.{FileOf}
 use Rattle.layout.proofs.Holds.{Holds, holds-self, holds-at, lays-part}
 use Rattle.layout.proofs.Numbers.{byte-read, rest-held, four-read, type-read}
-use Rattle.layout.proofs.Nodes.{parent-named, node-read}
+use Rattle.layout.proofs.Widths.{further-more, spare-length, spare-zero, supplies-length, node-length, nodes-length}
+use Rattle.layout.proofs.Nodes.{Spelled, parent-named, node-read}
 use Rattle.layout.proofs.Names.{nameIn, namesOf, names-count, names-at, length-read, name-read, same-equal}
-use Rattle.layout.proofs.Laid.{Laid, sizePlace, countPlace, namesPlace, supplies-length, nodes-length, plan-length, held-laid}
+use Rattle.layout.proofs.Laid.{Laid, coresPlace, sizePlace, countPlace, namesPlace, plan-length, held-laid}
 
 -- the numbers of a well-formed type take two bytes
 small-count : (a : SlotType) → wellFormed a ≡ true → a .c < 65536
@@ -74,14 +79,22 @@ module _ (s : List ℕ) (plan : Plan) (names : List (List ℕ)) (file : Begins s
   laid : Laid s plan names
   laid = held-laid s plan names (file .held)
 
-  -- the counts as they are read off, and where the sections stand by them
+  -- the edition and the counts as they are read off, and where the sections stand by them
+  edition-read : editionOf s ≡ plan .edition
+  unfolding editionOf
+  edition-read = byte-read s 0 _ _ (laid .edition)
+
+  cores-place : coresAt s ≡ coresPlace plan
+  unfolding coresAt
+  cores-place = ap (λ n. 9 + n) (further-more s (plan .edition) 8 edition-read)
+
   cores-read : coresOf s ≡ plan .cores
   unfolding coresOf
-  cores-read = byte-read s 9 _ _ (laid .cores)
+  cores-read = ap (byteAt s) cores-place ∙ byte-read s (coresPlace plan) _ _ (laid .cores)
 
   size-place : nodesAt s ≡ sizePlace plan
   unfolding nodesAt supplyStart
-  size-place = ap (λ n. 10 + 4 * n) cores-read
+  size-place = omega (arith, cores-place, cores-read)
 
   size-read : sizeOf s ≡ plan .size
   unfolding sizeOf
@@ -89,18 +102,20 @@ module _ (s : List ℕ) (plan : Plan) (names : List (List ℕ)) (file : Begins s
 
   count-place : namesAt s ≡ countPlace plan
   unfolding namesAt nodeStart
-  count-place = omega (arith, size-place, size-read)
+  count-place =
+      omega (arith, size-place, size-read, ap (λ n. further s (4 * n)) size-read, further-more s (plan .edition) (4 * plan .size) edition-read)
 
   -- each supply and each node is held at its start
-  supply-here : (i : ℕ) → i < plan .cores → Holds s (supplyStart i) (typeBytes (supplyAt plan i))
+  supply-here : (i : ℕ) → i < plan .cores → Holds s (supplyStart s i) (typeBytes (supplyAt plan i))
   unfolding supplyStart supplyPart
   supply-here i l =
-      holds-at s _ _ _ (omega (arith, supplies-length plan i)) (lays-part (supplyPart plan) s 10 (plan .cores) i l (laid .supplies))
+      holds-at s _ _ _ (omega (arith, supplies-length plan i, cores-place))
+      (lays-part (supplyPart plan) s (coresPlace plan + 1) (plan .cores) i l (laid .supplies))
 
-  node-here : (i : ℕ) → i < plan .size → Holds s (nodeStart s i) (nodeBytes (nodeAt plan i))
+  node-here : (i : ℕ) → i < plan .size → Holds s (nodeStart s i) (nodeBytes (plan .edition) (nodeAt plan i))
   unfolding nodeStart nodePart
   node-here i l =
-      holds-at s _ _ _ (omega (arith, nodes-length plan i, size-place))
+      holds-at s _ _ _ (omega (arith, nodes-length plan i, size-place, further-more s (plan .edition) (4 * i) edition-read))
       (lays-part (nodePart plan) s (sizePlace plan + 1) (plan .size) i l (laid .nodes))
 
   -- each name is held after those before it, which is its start
@@ -174,18 +189,36 @@ module _ (s : List ℕ) (plan : Plan) (names : List (List ℕ)) (file : Begins s
     unfolding supplyOf
     supply-read i l =
         let formed = sound .supplies i l in
-        type-read s (supplyStart i) (supplyAt plan i) (small-count _ formed) (small-period _ formed) (supply-here i l)
+        type-read s (supplyStart s i) (supplyAt plan i) (small-count _ formed) (small-period _ formed) (supply-here i l)
 
     named-parent : (i : ℕ) → i < plan .size → parentNamed (parentByte (parentOf plan i)) ≡ names-parent (parentOf plan i)
     named-parent i l =
         parent-named plan i (parentOf plan i) (sound .eight-cores) (omega (arith, sound .sixty-four-nodes)) (sound .parents i l)
 
+    -- a plan of another edition than 2 is of edition 1, and so has no misses
+    no-misses : (i : ℕ) → i < plan .size → eqb (plan .edition) 2 ≡ false → missesOf plan i ≡ noMisses
+    no-misses i l other = go (sound .edition)
+      where
+        go : (plan .edition ≡ 1) ⊎ (plan .edition ≡ 2) → missesOf plan i ≡ noMisses
+        go (inl e) = sound .first-edition e i l
+        go (inr e) = absurd (let z : _≡_ {A = ℕ} 0 1 = cc (eq-eqb (plan .edition) 2 e) in omega arith)
+
+    can-spell : (i : ℕ) → i < plan .size → Spelled (plan .edition) (nodeAt plan i)
+    can-spell i l =
+        let misses = within-bounds (missesOf plan i) (sound .misses i l) in
+        record {
+          wanted-count = small-count _ (sound .wanted i l);
+          wanted-period = small-period _ (sound .wanted i l);
+          missed = omega arith;
+          stretch = omega arith;
+          served-count = small-count _ (sound .served i l);
+          served-period = small-period _ (sound .served i l);
+          parent = named-parent i l;
+          none = no-misses i l;
+        }
+
     spelled-node : (i : ℕ) → i < plan .size → nodeOf s i ≡ nodeAt plan i
-    spelled-node i l =
-        let wanted = sound .wanted i l in
-        let served = sound .served i l in
-        node-read s i (nodeAt plan i) (small-count _ wanted) (small-period _ wanted) (small-count _ served) (small-period _ served)
-        (named-parent i l) (node-here i l)
+    spelled-node i l = node-read s i (nodeAt plan i) (rw edition-read (can-spell i l)) (rw edition-read (node-here i l))
 
     supplies-read : planOf s .supplies ≡ plan .supplies
     unfolding planOf
@@ -207,6 +240,7 @@ module _ (s : List ℕ) (plan : Plan) (names : List (List ℕ)) (file : Begins s
     plan-read =
         λ j.
         record {
+          edition = edition-read j;
           tick = record { p = p-read j; q = q-read j };
           cores = cores-read j;
           supplies = supplies-read j;
@@ -219,35 +253,48 @@ module _ (s : List ℕ) (plan : Plan) (names : List (List ℕ)) (file : Begins s
         let (d, h) = has-depth plan (plan .size) (sound .parents) i l in
         depth-within plan 8 h (sound .depths i d l h)
 
-    -- each node keeps 1 and 4 to 7
+    -- a node has the misses that are asked of it
+    misses-borne : (i : ℕ) → i < plan .size → borne (kindOf (planOf s) i) (missesOr s (nodeStart s i + 6)) ≡ true
+    unfolding isHost nodeOf
+    misses-borne i l =
+        rw (plan-read, ap (λ n. n .misses) (spelled-node i l))
+        (kept-borne (kindOf plan i) (missesOf plan i) (sound .misses i l) (sound .hosts-hard i l))
+
+    -- each node keeps 1, 4 to 7 and 19
     node-kept : (i : ℕ) → i < plan .size → NodeKept s i
-    unfolding nodeBytes typeBytes twoBytes nodeOf parentAllowed isNamed
+    unfolding nodeBytes nodeOf servedAt parentAllowed isNamed
     node-kept i l =
         let k = nodeStart s i in
         let here = node-here i l in
         let read = spelled-node i l in
         record {
-          whole = here .within;
+          whole = omega (arith, here .within, node-length (plan .edition) (nodeAt plan i), further-more s (plan .edition) 4 edition-read);
           kind = rw (byte-read s k _ _ here) (kind-small (nodeAt plan i .kind));
           named = rw (byte-read s (k + 1) _ _ (rest-held s k _ _ here), named-parent i l);
           allowed = rw plan-read (allowed-allows plan i (sound .parents i l));
           shallow = rw plan-read (shallow-node i l);
           wanted = ap (λ n. wellFormed (n .wanted)) read ∙ sound .wanted i l;
+          misses = misses-borne i l;
           served = ap (λ n. wellFormed (n .served)) read ∙ sound .served i l;
         }
 
-    -- and the whole keeps 1 to 9
+    -- and the whole keeps 1 to 9 and 19
     pub begun-kept : FieldsKept s
     unfolding isFit coresOf sizeOf fourBytes typeBytes twoBytes supplyOf
     begun-kept =
         let tick = and-eq-true-iff (inRange (plan .tick .p)) (inRange (plan .tick .q)) .0 (sound .tick) in
         record {
-          one = byte-read s 0 _ _ (laid .one);
+          edition = rw edition-read (sound .edition);
           p = record { whole = laid .p .within; ranged = rw p-read (tick .0) };
           q = record { whole = laid .q .within; ranged = rw q-read (tick .1) };
+          spare =
+              λ j l.
+              let long = spare-length (plan .edition) in
+              let wide = further-more s (plan .edition) 8 edition-read in
+              laid .spare .bytes j (omega arith) ∙ spare-zero (plan .edition) j;
           cores =
               record {
-                whole = laid .cores .within;
+                whole = omega (arith, laid .cores .within, cores-place);
                 some = omega (arith, cores-read, sound .some-core);
                 few = omega (arith, cores-read, sound .eight-cores);
               };

@@ -1,6 +1,6 @@
 -- What it is for bytes to hold others from a place on, and how that goes with ++ and `lays`. Assumes nothing.
 use Prim.Native.Nat.{ℕ, zero, suc, _+_, _-_, _*_, _≤_, _<_}
-use mathlib.Core.List.{List, _++_}
+use mathlib.Core.List.{List, [], _++_}
 use mathlib.Core.Logic.{_⊎_, inl, inr}
 use mathlib.Core.Path.{_≡_, sym, ap, _∙_}
 use native.Mathlib.Decide.{decLt}
@@ -20,6 +20,10 @@ pub record Holds (s : List ℕ) (k : ℕ) (x : List ℕ) : Type 0 where
 pub holds-self : (s : List ℕ) → Holds s 0 s
 unfolding byteAt
 holds-self s = record { within = omega arith; bytes = λ j h. ap (λ k. getD s k 0) (zero-add j) }
+
+-- nothing is held at any place up to the end
+pub holds-none : (s : List ℕ) (k : ℕ) → k ≤ length s → Holds s k []
+holds-none s k h = record { within = omega arith; bytes = λ j l. absurd (omega arith) }
 
 -- what is held is the part of the bytes there
 pub holds-part : (s : List ℕ) (k : ℕ) (x : List ℕ) → Holds s k x → take (length x) (drop k s) ≡ x
@@ -76,7 +80,7 @@ module _ (f : ℕ → List ℕ) where
     pub lays-held : (s : List ℕ) (n : ℕ) → ((i : ℕ) → i < n → at (suc i) ≡ at i + length (f i)) → at 0 ≤ length s →
         ((i : ℕ) → i < n → Holds s (at i) (f i)) → Holds s (at 0) (lays f n)
     unfolding lays
-    lays-held s zero step h held = record { within = omega arith; bytes = λ j l. absurd (omega arith) }
+    lays-held s zero step h held = holds-none s (at 0) h
     lays-held s (suc n) step h held =
         let before = lays-held s n (λ i l. step i (omega arith)) h (λ i l. held i (omega arith)) in
         let last = holds-at s _ _ (f n) (lays-end n (λ i l. step i (omega arith))) (held n (omega arith)) in

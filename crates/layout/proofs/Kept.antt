@@ -1,5 +1,5 @@
 -- What specs/Promises.antt says of plan files holds. Assumes nothing.
-use Prim.Native.Nat.{ℕ, _≤_, _<_}
+use Prim.Native.Nat.{ℕ, _<_}
 use mathlib.Core.List.{List, []}
 use mathlib.Core.Logic.{_⊎_, inl, inr}
 use mathlib.Core.Path.{_≡_, refl, sym, ap, subst, _∙_}
@@ -25,7 +25,7 @@ use Rattle.reader.specs.Read.{checkEnd, checkBytes, readAnswer, readPlan, nameO
 use Rattle.reader.proofs.Accepts.{checkFields, bytes-checked, fields-kept, bytes-kept}
 use Rattle.reader.proofs.Spelled.{spelled-sound, accepted-plan}
 use Rattle.reader.proofs.Kept.{accepted-fit}
-use Rattle.layout.specs.Promises.{Bytes, FileOf, SoundFile, AcceptsExactly, StaysAccepted, RefusesByBytes, LeftOverExactly, RefusesByRules, RefusesAtPlace, OneReading, NamesPlaced}
+use Rattle.layout.specs.Promises.{Bytes, ByBytes, ByRules, FileOf, SoundFile, AcceptsExactly, StaysAccepted, RefusesByBytes, LeftOverExactly, RefusesByRules, RefusesAtPlace, OneReading, NamesPlaced}
 use Rattle.layout.proofs.Names.{nameIn, namesOf, names-at}
 use Rattle.layout.proofs.Out.{spelled-start, spelled-file}
 use Rattle.layout.proofs.Back.{file-begins, part-begins, end-read, plan-read, names-read, begun-kept}
@@ -123,45 +123,51 @@ refused-by s small r k e = go (first-refused (checkBytes s) (rules (planOf s)) r
 bytes-say : (s : List ℕ) → Bytes s → (r k : ℕ) → checkBytes s ≡ Refused r k → said (readPlan s .answer) ≡ refused r (at k)
 unfolding readPlan readAnswer
 bytes-say s small r k e =
-    refused-at (readAnswer s) r k (first-first (checkBytes s) (rules (planOf s)) r k e ∙ e) (omega (arith, bytes-refusal s small r k e .2))
+    refused-at (readAnswer s) r k (first-first (checkBytes s) (rules (planOf s)) r k e ∙ e) (omega (arith, bytes-refusal s small r k e .1))
 
--- every refusal has a number from 1 to 14 and a place near the front
-pub refusal-early : (s : List ℕ) → Bytes s → (r k : ℕ) → readPlan s .answer ≡ Refused r k → (1 ≤ r) × (r ≤ 14) × (k < 100000)
+-- every refusal is one of the bytes or one of the rules, with a place near the front
+pub refusal-early : (s : List ℕ) → Bytes s → (r k : ℕ) → readPlan s .answer ≡ Refused r k → (ByBytes r ⊎ ByRules r) × (k < 100000)
 unfolding readPlan
 refusal-early s small r k e = go (refused-by s small r k e)
   where
     go : (checkBytes s ≡ Refused r k) ⊎ (FileOf s (planOf s) (namesOf s) × Sound (planOf s) × FirstBrokenAt (planOf s) r k) →
-        (1 ≤ r) × (r ≤ 14) × (k < 100000)
+        (ByBytes r ⊎ ByRules r) × (k < 100000)
     go (inl h) =
-        let (least, most, early) = bytes-refusal s small r k h in
-        (least, omega arith, early)
+        let (number, early) = bytes-refusal s small r k h in
+        (inl number, early)
     go (inr h) =
-        let (least, most, early) = broken-range (planOf s) (h .1) r k (h .2) in
-        (omega arith, most, omega arith)
+        let (number, early) = broken-range (planOf s) (h .1) r k (h .2) in
+        (inr number, omega arith)
 
--- bytes are refused by 1 to 10 exactly when they are the file of no sound value
+-- no number is both
+apart : (r : ℕ) → ByBytes r → ByRules r → ⊥
+apart r (inl h) (inl l) = omega arith
+apart r (inl h) (inr l) = omega arith
+apart r (inr h) (inl l) = omega arith
+apart r (inr h) (inr l) = omega arith
+
+-- bytes are refused by 1 to 10 or 19 exactly when they are the file of no sound value
 pub refuses-by-bytes : RefusesByBytes
 unfolding readPlan
 refuses-by-bytes s small = (
   λ h file.
-      let (r, k, least, most, e) = h in
-      other file r k (omega arith) (refused-by s small r k (said-refused (readAnswer s) r (at k) e)),
+      let (r, k, number, e) = h in
+      other file r k number (refused-by s small r k (said-refused (readAnswer s) r (at k) e)),
   λ no-file. go no-file (checkBytes s) refl,
 )
   where
-    other : SoundFile s → (r k : ℕ) → r ≤ 10 →
+    other : SoundFile s → (r k : ℕ) → ByBytes r →
         (checkBytes s ≡ Refused r k) ⊎ (FileOf s (planOf s) (namesOf s) × Sound (planOf s) × FirstBrokenAt (planOf s) r k) → ⊥
-    other (plan, names, file, sound) r k most (inl h) = let z : _≡_ {A = ℕ} 0 1 = cc (file-accepted s plan names file sound) in omega arith
-    other file r k most (inr h) = omega (arith, broken-range (planOf s) (h .1) r k (h .2) .0)
+    other (plan, names, file, sound) r k number (inl h) = let z : _≡_ {A = ℕ} 0 1 = cc (file-accepted s plan names file sound) in omega arith
+    other file r k number (inr h) = apart r number (broken-range (planOf s) (h .1) r k (h .2) .0)
 
     go : (SoundFile s → ⊥) → (a : Answer) → checkBytes s ≡ a →
-        (r : ℕ) × (k : ℕ) × (1 ≤ r) × (r ≤ 10) × (said (readPlan s .answer) ≡ refused r (at k))
+        (r : ℕ) × (k : ℕ) × ByBytes r × (said (readPlan s .answer) ≡ refused r (at k))
     go no-file Accepted e =
         let (file, sound) = spelled s small e in
         absurd (no-file (planOf s, namesOf s, file, sound))
     go no-file (Refused r k) e =
-        let (least, most, early) = bytes-refusal s small r k e in
-        (r, k, least, most, bytes-say s small r k e)
+        (r, k, bytes-refusal s small r k e .0, bytes-say s small r k e)
 
 -- bytes are refused by 10 at k exactly when the first k are the file of a sound value, and there are more
 pub left-over-exactly : LeftOverExactly
@@ -179,7 +185,7 @@ left-over-exactly s small k = (
         let (kept, ends, longer) = left-over s small k h in
         let file = subst (λ n. FileOf (take n s) (planOf s) (namesOf s)) ends (spelled-start s kept small) in
         ((planOf s, namesOf s, file, sound-kept (planOf s) (spelled-sound s kept)), omega arith)
-    go (inr h) = absurd (omega (arith, broken-range (planOf s) (h .1) 10 k (h .2) .0))
+    go (inr h) = absurd (apart 10 (inl (omega arith, omega arith)) (broken-range (planOf s) (h .1) 10 k (h .2) .0))
 
     more : SoundFile (take k s) → k < length s → checkBytes s ≡ Refused 10 k
     more (plan, names, file, sound) longer =
@@ -188,10 +194,10 @@ left-over-exactly s small k = (
         bytes-checked s ∙
         first-second (checkFields s) (checkEnd s) (fields-kept s .1 (begun-kept s plan names begins sound)) ∙ over-refused s k ends longer
 
--- bytes are refused by 11 to 14 exactly when they are the file of a sound value that breaks that rule first, at that place
+-- bytes are refused by 11 to 14 or 20 exactly when they are the file of a sound value that breaks that rule first, at that place
 pub refuses-by-rules : RefusesByRules
 unfolding readPlan readAnswer
-refuses-by-rules s small r k least most = (
+refuses-by-rules s small r k number = (
   λ e. go (refused-by s small r k (said-refused (readAnswer s) r (at k) e)),
   λ h.
       let (plan, names, file, sound, broken) = h in
@@ -203,18 +209,17 @@ refuses-by-rules s small r k least most = (
   where
     go : (checkBytes s ≡ Refused r k) ⊎ (FileOf s (planOf s) (namesOf s) × Sound (planOf s) × FirstBrokenAt (planOf s) r k) →
         (plan : Plan) × (names : List (List ℕ)) × FileOf s plan names × Sound plan × FirstBrokenAt plan r k
-    go (inl h) = absurd (omega (arith, bytes-refusal s small r k h .1))
+    go (inl h) = absurd (apart r (bytes-refusal s small r k h .0) number)
     go (inr h) = (planOf s, namesOf s, h .0, h .1, h .2)
 
--- every refusal has a number from 1 to 14, and a place
+-- every refusal is one of the bytes or one of the rules, and has a place
 pub refuses-at-place : RefusesAtPlace
 refuses-at-place s small r p e = go p e
   where
-    go : (q : Place) → said (readPlan s .answer) ≡ refused r q → (1 ≤ r) × (r ≤ 14) × ((k : ℕ) × (q ≡ at k))
-    go none h = absurd (omega (arith, refusal-early s small r nowhere (said-refused (readPlan s .answer) r none h) .2))
+    go : (q : Place) → said (readPlan s .answer) ≡ refused r q → (ByBytes r ⊎ ByRules r) × ((k : ℕ) × (q ≡ at k))
+    go none h = absurd (omega (arith, refusal-early s small r nowhere (said-refused (readPlan s .answer) r none h) .1))
     go (at k) h =
-        let (least, most, early) = refusal-early s small r k (said-refused (readPlan s .answer) r (at k) h) in
-        (least, most, (k, refl))
+        (refusal-early s small r k (said-refused (readPlan s .answer) r (at k) h) .0, (k, refl))
 
 -- a name is handed out as it was laid out
 pub names-placed : NamesPlaced

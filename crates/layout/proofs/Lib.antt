@@ -1,8 +1,10 @@
 pub mod Holds
 pub mod Numbers
+pub mod Widths
 pub mod Nodes
 pub mod Names
 pub mod Laid
+pub mod First
 pub mod Out
 pub mod Back
 pub mod Refusals

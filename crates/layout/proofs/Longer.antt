@@ -1,4 +1,4 @@
--- A file of 2,797 bytes or more is answered by its first 2,797: no check looks further, once those before it have accepted. Assumes nothing.
+-- A file of 3,061 bytes or more is answered by its first 3,061: no check looks further, once those before it have accepted. Assumes nothing.
 use Prim.Native.Nat.{ℕ, zero, suc, _+_, _*_, _≤_, _<_, min}
 use mathlib.Core.List.{List}
 use mathlib.Core.Path.{_≡_, refl, sym, ap, _∙_}
@@ -13,133 +13,205 @@ use Rattle.answers.specs.declared.Answer.the-variants.{Accepted, Refused}
 use Rattle.answers.proofs.Laws.{first-accepted-left, first-accepted-right, first-alike, each-accepted, each-accepted-at, each-alike, each-ext}
 use Rattle.plans.specs.Plan.{zeroType, zeroNode}
 use Rattle.plans.proofs.All.{all-ext}
-use Rattle.fields.specs.Fields.{byteAt, twoAt, fourAt, typeAt, there, checkType}
-use Rattle.decode.specs.Positions.{coresOf, supplyStart, nodesAt, sizeOf, nodeStart, namesAt, nameStart, endAt}
-use Rattle.decode.specs.Decode.{supplyOf, nodeOf, planOf}
+use Rattle.fields.specs.Fields.{byteAt, twoAt, fourAt, typeAt, missesAt, there, checkType}
+use Rattle.decode.specs.Positions.{editionOf, further, coresAt, coresOf, supplyStart, nodesAt, sizeOf, nodeStart, servedAt, namesAt, nameStart, endAt}
+use Rattle.decode.specs.Decode.{missesOr, supplyOf, nodeOf, planOf}
+use Rattle.decode.proofs.Editions.{further-most, further-alike}
 use Rattle.decode.proofs.Filled.{filled-ext}
 use Rattle.names.specs.Names.{letterAt, checkLetter, agreesAt, sameName, differs, isNew, checkName, checkNames}
-use Rattle.reader.specs.Read.{checkPart, checkTick, checkCount, checkSupply, checkSupplies, checkKind, checkParent, checkNode, checkNodes, checkEnd, checkBytes, readAnswer, readPlan}
+use Rattle.reader.specs.Read.{checkPart, spareAt, checkSpare, checkTick, checkCount, checkSupply, checkSupplies, checkKind, checkParent, checkMisses, checkNode, checkNodes, checkEnd, checkBytes, readAnswer, readPlan}
 use Rattle.reader.proofs.Accepts.{name-kept}
 use Rattle.reader.proofs.Spelled.{refused-plan}
 use Rattle.layout.specs.Promises.{LongerAlike}
 use Rattle.layout.proofs.Reach.{few-letters, few-cores, few-nodes, nodes-most, names-most, start-most, bytes-short, accepted-short}
 
--- two files that agree in their first 2,797 bytes
+-- two files that agree in their first 3,061 bytes
 record Alike (s r : List ℕ) : Type 0 where
-  pub bytes : (k : ℕ) → k < 2797 → byteAt s k ≡ byteAt r k
-  pub left : 2797 ≤ length s
-  pub right : 2797 ≤ length r
+  pub bytes : (k : ℕ) → k < 3061 → byteAt s k ≡ byteAt r k
+  pub left : 3061 ≤ length s
+  pub right : 3061 ≤ length r
 
 module _ (s r : List ℕ) (h : Alike s r) where
   -- a field among them is there in both,
-  there-alike : (k n : ℕ) → k + n ≤ 2797 → there s k n ≡ there r k n
+  there-alike : (k n : ℕ) → k + n ≤ 3061 → there s k n ≡ there r k n
   unfolding there
   there-alike k n l = rw (le-leb (k + n) (length s) (omega (arith, h .left)), le-leb (k + n) (length r) (omega (arith, h .right)))
 
   -- and reads the same: a number of two bytes,
-  two-alike : (k : ℕ) → k + 2 ≤ 2797 → twoAt s k ≡ twoAt r k
+  two-alike : (k : ℕ) → k + 2 ≤ 3061 → twoAt s k ≡ twoAt r k
   unfolding twoAt
   two-alike k l = rw (h .bytes k (omega arith), h .bytes (k + 1) (omega arith))
 
   -- of four,
-  four-alike : (k : ℕ) → k + 4 ≤ 2797 → fourAt s k ≡ fourAt r k
+  four-alike : (k : ℕ) → k + 4 ≤ 3061 → fourAt s k ≡ fourAt r k
   unfolding fourAt
   four-alike k l = rw (two-alike k (omega arith), two-alike (k + 2) (omega arith))
 
-  -- and a type
-  type-alike : (k : ℕ) → k + 4 ≤ 2797 → typeAt s k ≡ typeAt r k
+  -- and a type, or misses
+  type-alike : (k : ℕ) → k + 4 ≤ 3061 → typeAt s k ≡ typeAt r k
   unfolding typeAt
   type-alike k l = rw (two-alike k (omega arith), two-alike (k + 2) (omega arith))
 
+  misses-alike : (k : ℕ) → k + 4 ≤ 3061 → missesAt s k ≡ missesAt r k
+  unfolding missesAt
+  misses-alike k l = rw (two-alike k (omega arith), two-alike (k + 2) (omega arith))
+
   -- So it is checked alike: a type,
-  type-checked : (k : ℕ) → k + 4 ≤ 2797 → checkType s k ≡ checkType r k
+  type-checked : (k : ℕ) → k + 4 ≤ 3061 → checkType s k ≡ checkType r k
   unfolding checkType
   type-checked k l = rw (there-alike k 2 (omega arith), there-alike (k + 2) 2 (omega arith), type-alike k l)
 
+  -- a spare byte,
+  spare-checked : (j : ℕ) → j < 8 → checkSpare s j ≡ checkSpare r j
+  unfolding checkSpare spareAt
+  spare-checked j l = rw (there-alike (9 + j) 1 (omega arith), h .bytes (9 + j) (omega arith))
+
   -- the tick,
+  edition-alike : editionOf s ≡ editionOf r
+  unfolding editionOf
+  edition-alike = h .bytes 0 (omega arith)
+
+  further-on : (n : ℕ) → further s n ≡ further r n
+  further-on n = further-alike s r n edition-alike
+
   tick-checked : checkTick s ≡ checkTick r
   unfolding checkTick checkPart
   tick-checked =
       rw (
+        ← further-on 8,
+        ← edition-alike,
         there-alike 0 1 (omega arith),
-        h .bytes 0 (omega arith),
         there-alike 1 4 (omega arith),
         four-alike 1 (omega arith),
         there-alike 5 4 (omega arith),
         four-alike 5 (omega arith),
+        each-ext (checkSpare s) (checkSpare r) (further s 8) (λ j l. spare-checked j (omega (arith, further-most s 8))),
       )
 
   -- and a count.
-  count-checked : (k most : ℕ) → k < 2797 → checkCount s k most ≡ checkCount r k most
+  count-checked : (k most : ℕ) → k < 3061 → checkCount s k most ≡ checkCount r k most
   unfolding checkCount
   count-checked k most l = rw (there-alike k 1 (omega arith), h .bytes k l)
 
-  -- There are as many supplies,
+  -- The supplies stand at the same place,
+  cores-place : coresAt s ≡ coresAt r
+  unfolding coresAt
+  cores-place = ap (λ n. 9 + n) (further-on 8)
+
+  cores-near : coresAt s ≤ 17
+  unfolding coresAt
+  cores-near = omega (arith, further-most s 8)
+
+  supply-place : (i : ℕ) → supplyStart s i ≡ supplyStart r i
+  unfolding supplyStart
+  supply-place i = omega (arith, cores-place)
+
+  -- there are as many,
   cores-alike : coresOf s ≡ coresOf r
   unfolding coresOf
-  cores-alike = h .bytes 9 (omega arith)
+  cores-alike = h .bytes (coresAt s) (omega (arith, cores-near)) ∙ ap (byteAt r) cores-place
+
+  -- each reads the same,
+  supply-alike : (i : ℕ) → i < 8 → supplyOf s i ≡ supplyOf r i
+  unfolding supplyOf supplyStart
+  supply-alike i l = type-alike (supplyStart s i) (omega (arith, cores-near)) ∙ ap (typeAt r) (supply-place i)
 
   -- and they are checked alike.
   supplies-checked : checkSupplies s ≡ checkSupplies r
   unfolding checkSupplies checkSupply supplyStart
   supplies-checked =
-      rw (← cores-alike)
-      (first-alike (count-checked 9 8 (omega arith))
-      (λ e. each-ext (checkSupply s) (checkSupply r) (coresOf s) (λ i l. type-checked (supplyStart i) (omega (arith, few-cores s e)))))
+      rw (← cores-place, ← cores-alike)
+      (first-alike (count-checked (coresAt s) 8 (omega (arith, cores-near)))
+      (λ e. each-ext (checkSupply s) (checkSupply r) (coresOf s)
+      (λ i l. type-checked (supplyStart s i) (omega (arith, cores-near, few-cores s e)) ∙ ap (checkType r) (supply-place i))))
 
   module _ (cores : coresOf s ≤ 8) where
     -- The nodes stand at the same place,
     nodes-alike : nodesAt s ≡ nodesAt r
     unfolding nodesAt
-    nodes-alike = ap supplyStart cores-alike
+    nodes-alike = supply-place (coresOf s) ∙ ap (supplyStart r) cores-alike
+
+    nodes-near : nodesAt s ≤ 50
+    nodes-near = omega (arith, nodes-most s cores, further-most s 8)
 
     -- there are as many,
     size-alike : sizeOf s ≡ sizeOf r
     unfolding sizeOf
-    size-alike = h .bytes (nodesAt s) (omega (arith, nodes-most s cores)) ∙ ap (byteAt r) nodes-alike
+    size-alike = h .bytes (nodesAt s) (omega (arith, nodes-near)) ∙ ap (byteAt r) nodes-alike
 
-    -- each reads the same,
+    -- and each stands at the same place,
+    node-place : (i : ℕ) → nodeStart s i ≡ nodeStart r i
+    unfolding nodeStart
+    node-place i = omega (arith, nodes-alike, further-on (4 * i))
+
+    served-place : (i : ℕ) → servedAt s i ≡ servedAt r i
+    unfolding servedAt
+    served-place i = omega (arith, node-place i, further-on 4)
+
+    served-near : (i : ℕ) → i < 64 → (nodeStart s i + 10 ≤ 3061) × (servedAt s i + 4 ≤ 3061)
+    unfolding servedAt nodeStart
+    served-near i l =
+        let near = nodes-near in
+        let before = further-most s (4 * i) in
+        let within = further-most s 4 in
+        (omega arith, omega arith)
+
+    -- reads the same,
+    misses-read : (k : ℕ) → k + 4 ≤ 3061 → missesOr s k ≡ missesOr r k
+    unfolding missesOr
+    misses-read k l = rw (edition-alike, misses-alike k l)
+
     node-alike : (i : ℕ) → i < 64 → nodeOf s i ≡ nodeOf r i
-    unfolding nodeOf nodeStart
+    unfolding nodeOf
     node-alike i l =
-        let k = nodesAt s + 1 + 10 * i in
-        let far : k + 10 ≤ 2797 = omega (arith, nodes-most s cores) in
+        let k = nodeStart s i in
+        let (far, end) = served-near i l in
         rw (
-          ← nodes-alike,
+          ← node-place i,
+          ← served-place i,
           h .bytes k (omega arith),
           h .bytes (k + 1) (omega arith),
           type-alike (k + 2) (omega arith),
-          type-alike (k + 6) (omega arith),
+          misses-read (k + 6) (omega arith),
+          type-alike (servedAt s i) end,
         )
 
     -- and so does the whole plan value,
     plan-alike : planOf s ≡ planOf r
-    unfolding planOf supplyOf supplyStart
+    unfolding planOf
     plan-alike =
         rw (
+          edition-alike,
           four-alike 1 (omega arith),
           four-alike 5 (omega arith),
-          filled-ext (supplyOf s) (replicate 8 zeroType) (supplyOf r) (min (coresOf s) 8) (λ i l. type-alike (supplyStart i) (omega arith)),
+          filled-ext (supplyOf s) (replicate 8 zeroType) (supplyOf r) (min (coresOf s) 8) (λ i l. supply-alike i (omega arith)),
           filled-ext (nodeOf s) (replicate 64 zeroNode) (nodeOf r) (min (sizeOf s) 64) (λ i l. node-alike i (omega arith)),
           cores-alike,
           size-alike,
         )
 
     -- so that a node is checked alike,
+    misses-checked : (i k : ℕ) → k + 4 ≤ 3061 → checkMisses s i k ≡ checkMisses r i k
+    unfolding checkMisses
+    misses-checked i k l =
+        rw (edition-alike, there-alike k 2 (omega arith), there-alike (k + 2) 2 (omega arith), plan-alike, misses-alike k l)
+
     node-checked : (i : ℕ) → i < 64 → checkNode s i ≡ checkNode r i
-    unfolding checkNode checkKind checkParent nodeStart
+    unfolding checkNode checkKind checkParent
     node-checked i l =
-        let k = nodesAt s + 1 + 10 * i in
-        let far : k + 10 ≤ 2797 = omega (arith, nodes-most s cores) in
+        let k = nodeStart s i in
+        let (far, end) = served-near i l in
         rw (
-          ← nodes-alike,
+          ← node-place i,
+          ← served-place i,
           there-alike k 1 (omega arith),
           h .bytes k (omega arith),
           there-alike (k + 1) 1 (omega arith),
           h .bytes (k + 1) (omega arith),
           plan-alike,
           type-checked (k + 2) (omega arith),
-          type-checked (k + 6) (omega arith),
+          misses-checked i (k + 6) (omega arith),
+          type-checked (servedAt s i) end,
         )
 
     -- and so are all.
@@ -147,16 +219,16 @@ module _ (s r : List ℕ) (h : Alike s r) where
     unfolding checkNodes
     nodes-checked =
         rw (← nodes-alike, ← size-alike)
-        (first-alike (count-checked (nodesAt s) 64 (omega (arith, nodes-most s cores)))
+        (first-alike (count-checked (nodesAt s) 64 (omega (arith, nodes-near)))
         (λ e. each-ext (checkNode s) (checkNode r) (sizeOf s) (λ i l. node-checked i (omega (arith, few-nodes s e)))))
 
     -- A byte of a name is checked alike,
-    letter-checked : (k j : ℕ) → k + 1 + j < 2797 → checkLetter s k j ≡ checkLetter r k j
+    letter-checked : (k j : ℕ) → k + 1 + j < 3061 → checkLetter s k j ≡ checkLetter r k j
     unfolding checkLetter letterAt
     letter-checked k j l = rw (there-alike (k + 1 + j) 1 (omega arith), h .bytes (k + 1 + j) l)
 
     -- and two names are the same in both or in neither.
-    same-alike : (a b : ℕ) → a + 33 ≤ 2797 → b + 33 ≤ 2797 → byteAt s a ≤ 32 → sameName s a b ≡ sameName r a b
+    same-alike : (a b : ℕ) → a + 33 ≤ 3061 → b + 33 ≤ 3061 → byteAt s a ≤ 32 → sameName s a b ≡ sameName r a b
     unfolding sameName agreesAt
     same-alike a b l m short =
         rw (← h .bytes a (omega arith))
@@ -166,8 +238,11 @@ module _ (s r : List ℕ) (h : Alike s r) where
     module _ (size : sizeOf s ≤ 64) where
       -- The names stand at the same place,
       names-alike : namesAt s ≡ namesAt r
-      unfolding namesAt nodeStart
-      names-alike = omega (arith, nodes-alike, size-alike)
+      unfolding namesAt
+      names-alike = node-place (sizeOf s) ∙ ap (nodeStart r) size-alike
+
+      start-near : (i : ℕ) → each (checkName s) i ≡ Accepted → nameStart s i ≤ 948 + 33 * i
+      start-near i e = omega (arith, start-most s cores size i e, further-most s 264)
 
       -- each begins at the same place, once those before it are accepted,
       start-alike : (i : ℕ) → i ≤ 64 → each (checkName s) i ≡ Accepted → nameStart s i ≡ nameStart r i
@@ -176,12 +251,12 @@ module _ (s r : List ℕ) (h : Alike s r) where
       start-alike (suc i) l e =
           let before = first-accepted-left (each (checkName s) i) (checkName s i) e in
           let at = start-alike i (omega arith) before in
-          omega (arith, h .bytes (nameStart s i) (omega (arith, start-most s cores size i before)), ap (byteAt r) at)
+          omega (arith, h .bytes (nameStart s i) (omega (arith, start-near i before)), ap (byteAt r) at)
 
       module _ (i : ℕ) (l : i < 64) (e : each (checkName s) i ≡ Accepted) where
         -- with room for 32 bytes more,
-        here : nameStart s i + 33 ≤ 2797
-        here = omega (arith, start-most s cores size i e)
+        here : nameStart s i + 33 ≤ 3061
+        here = omega (arith, start-near i e)
 
         -- it is new in both or in neither,
         new-alike : isNew s i ≡ isNew r i
@@ -191,7 +266,7 @@ module _ (s r : List ℕ) (h : Alike s r) where
             (λ j m.
             let accepted = each-accepted-at (checkName s) i e in
             let before = each-accepted (checkName s) j (λ k n. accepted k (omega arith)) in
-            let far : nameStart s j + 33 ≤ 2797 = omega (arith, start-most s cores size j before) in
+            let far : nameStart s j + 33 ≤ 3061 = omega (arith, start-near j before) in
             rw (
               ← start-alike j (omega arith) before,
               ← start-alike i (omega arith) e,
@@ -215,7 +290,7 @@ module _ (s r : List ℕ) (h : Alike s r) where
       names-checked : checkNames s ≡ checkNames r
       unfolding checkNames
       names-checked =
-          let far = names-most s cores size in
+          let near : namesAt s ≤ 947 = omega (arith, names-most s cores size, further-most s 264) in
           rw (← names-alike, ← size-alike, there-alike (namesAt s) 1 (omega arith), h .bytes (namesAt s) (omega arith))
           (first-alike refl
           (λ a. first-alike refl
@@ -226,7 +301,7 @@ module _ (s r : List ℕ) (h : Alike s r) where
       unfolding checkEnd endAt
       end-checked e =
           let k = nameStart s (sizeOf s) in
-          let far : k < 2797 = omega (arith, start-most s cores size (sizeOf s) e) in
+          let far : k < 3061 = omega (arith, start-near (sizeOf s) e) in
           rw (
             ← size-alike,
             ← start-alike (sizeOf s) size e,
@@ -251,7 +326,7 @@ module _ (s r : List ℕ) (h : Alike s r) where
   -- refused alike, since none so long are accepted,
   answer-alike : readAnswer s ≡ readAnswer r
   unfolding readAnswer
-  answer-alike = first-alike bytes-checked (λ e. absurd (omega (arith, bytes-short s e, h .left)))
+  answer-alike = first-alike bytes-checked (λ e. absurd (omega (arith, bytes-short s e, further-most s 264, h .left)))
 
   -- and read alike
   reading-alike : readPlan s ≡ readPlan r
@@ -264,7 +339,7 @@ module _ (s r : List ℕ) (h : Alike s r) where
           λ j.
           record { answer = answer-alike j; plan = (refused-plan s n k e ∙ sym (refused-plan r n k (sym answer-alike ∙ e))) j }
 
--- what stands beyond byte 2,797 changes nothing
+-- what stands beyond byte 3,061 changes nothing
 pub longer-alike : LongerAlike
 unfolding byteAt
 longer-alike s n l = go (decLe (length s) n)

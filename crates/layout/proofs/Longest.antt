@@ -1,36 +1,43 @@
--- A plan of the greatest length fits, and its file, of 2,796 bytes, is accepted. Assumes nothing.
-use Prim.Native.Nat.{ℕ, zero, suc, _*_, _/_, _%_, _≤_, _<_}
-use mathlib.Core.Bool.{Bool, true, false, cond, true≢false}
+-- A plan of the greatest length fits, and its file, of 2,796 bytes in edition 1 and 3,060 in edition 2, is accepted. Assumes nothing.
+use Prim.Native.Nat.{ℕ, zero, suc, _+_, _*_, _/_, _%_, _≤_, _<_}
+use mathlib.Core.Bool.{Bool, true, false, not, cond, _&&_, true≢false, false≢true}
 use mathlib.Core.List.{List, []}
-use mathlib.Core.Logic.{inl}
+use mathlib.Core.Logic.{_⊎_, inl, inr}
 use mathlib.Core.Path.{_≡_, refl, sym, ap, ap₂, subst, _∙_}
 use native.Mathlib.Nat.{le-trans, mul-div-le}
 use native.Mathlib.Omega.{arith}
+use lib.Dec.{ltb}
 use lib.ListN.{length, getD, replicate, length-replicate, getD-replicate}
 use Rattle.ticks.specs.Times.{inRange, isFit}
 use Rattle.meaning.specs.Types.{wellFormed, StandsIn}
+use Rattle.meaning.specs.Soft.{withinRange}
 use Rattle.meaning.specs.declared.Kind.the-variants.{Aligned}
 use Rattle.answers.specs.Answers.{said}
-use Rattle.plans.specs.Plan.{zeroType, zeroNode, nodeAt, supplyAt, There, parentOf, wantedAs, ownType, same, isChild}
+use Rattle.plans.specs.Plan.{zeroType, zeroNode, nodeAt, supplyAt, There, parentOf, hosting, isHost, isSoft, wantedAs, ownType, same, isChild}
 use Rattle.plans.specs.Sound.{supply, Depth, top, under, Sound}
 use Rattle.plans.specs.declared.Parent.{Parent}
 use Rattle.plans.specs.declared.Parent.the-variants.{Supply}
 use Rattle.plans.specs.declared.Plan.{Plan}
 use Rattle.plans.proofs.Entries.{node-at-element, supply-at-element, same-equal}
 use Rattle.rules.specs.Fit.{sumTo, load, longest, loadTo, isWhole, owes, side, Rule14, Fit}
+use Rattle.rules.proofs.KeptSoft.{hard-eleven}
 use Rattle.rules.proofs.Totals.{sum-bounded}
+use Rattle.fields.specs.Fields.{byteAt}
+use Rattle.decode.specs.Positions.{editionOf, further}
 use Rattle.decode.proofs.Entries.{length-filled, filled-at}
 use Rattle.reader.specs.Read.{readPlan}
 use Rattle.layout.specs.Layout.{nameBytes, namePart, SoundNames}
 use Rattle.layout.specs.Promises.{FileOf}
-use Rattle.layout.specs.Longest.{every, leaf, longestPlan, longestName, longestNames, longestFile, LongestReached}
+use Rattle.layout.specs.Longest.{every, leaf, longestPlan, longestName, longestNames, longestFile, Reaches, LongestReached}
 use Rattle.layout.proofs.Holds.{lays-end}
+use Rattle.layout.proofs.Widths.{more}
 use Rattle.layout.proofs.Laid.{plan-length}
 use Rattle.layout.proofs.AreBytes.{files-are-bytes}
 use Rattle.layout.proofs.Kept.{fit-accepted}
 
 -- a plan value of eight supplies with every slot and 64 leaves under the first
 record Even (plan : Plan) : Type 0 where
+  edition : (plan .edition ≡ 1) ⊎ (plan .edition ≡ 2)
   tick : isFit (plan .tick) ≡ true
   cores : plan .cores ≡ 8
   size : plan .size ≡ 64
@@ -52,9 +59,10 @@ module _ (plan : Plan) (even : Even plan) where
 
   -- and it is sound
   even-sound : Sound plan
-  unfolding wellFormed
+  unfolding wellFormed withinRange
   even-sound =
       record {
+        edition = even .edition;
         some-core = omega (arith, even .cores);
         eight-cores = omega (arith, even .cores);
         some-node = omega (arith, even .size);
@@ -62,10 +70,18 @@ module _ (plan : Plan) (even : Even plan) where
         tick = even .tick;
         supplies = λ s l. rw (even .supplies s (omega (arith, even .cores)));
         wanted = λ i l. ap (λ n. wellFormed (n .wanted)) (node-is i l);
+        misses = λ i l. ap (λ n. withinRange (n .misses)) (node-is i l);
+        hosts-hard = λ i l h. ap (λ n. n .misses .d) (node-is i l);
+        first-edition = λ one i l. ap (λ n. n .misses) (node-is i l);
         served = λ i l. ap (λ n. wellFormed (n .served)) (node-is i l);
         parents = λ i l. rw (parent-is i l) (supply {s = 0} (omega (arith, even .cores)));
         depths = λ i d l h. shallow l h;
       }
+
+  -- its leaves are hard
+  leaf-hard : (i : ℕ) → There plan i → isSoft plan i ≡ false
+  unfolding isSoft isHost hosting
+  leaf-hard i l = ap (λ n. not (hosting (n .kind)) && ltb 0 (n .misses .d)) (node-is i l)
 
   -- the first supply's own type is every slot
   own-every : (x : Parent) → Supply 0 ≡ x → ownType plan x ≡ every
@@ -109,7 +125,11 @@ module _ (plan : Plan) (even : Even plan) where
   even-fit =
       record {
         sound = even-sound;
-        rule11 = λ i l. subst (λ n. StandsIn Aligned (n .served) (wantedAs (n .kind)) (n .wanted)) (sym (node-is i l)) (λ α h. h);
+        rule20 = λ i l soft. absurd (false≢true (sym (leaf-hard i l) ∙ soft));
+        rule11 =
+            λ i l.
+            hard-eleven plan even-sound i l (leaf-hard i l) .1
+            (subst (λ n. StandsIn Aligned (n .served) (wantedAs (n .kind)) (n .wanted)) (sym (node-is i l)) (λ α h. h));
         rule12 =
             λ x i c part.
             let own = own-every x (sym (parent-is i (c .there)) ∙ c .under) in
@@ -119,15 +139,16 @@ module _ (plan : Plan) (even : Even plan) where
       }
 
 -- so it is with the plan of the greatest length
-longest-even : Even longestPlan
+longest-even : (edition : ℕ) → (edition ≡ 1) ⊎ (edition ≡ 2) → Even (longestPlan edition)
 unfolding longestPlan isFit inRange
-longest-even =
+longest-even edition e =
     record {
+      edition = e;
       tick = refl;
       cores = refl;
       size = refl;
-      supplies = λ s l. sym (supply-at-element longestPlan s l) ∙ getD-replicate 8 s every zeroType l;
-      nodes = λ i l. sym (node-at-element longestPlan i l) ∙ getD-replicate 64 i leaf zeroNode l;
+      supplies = λ s l. sym (supply-at-element (longestPlan edition) s l) ∙ getD-replicate 8 s every zeroType l;
+      nodes = λ i l. sym (node-at-element (longestPlan edition) i l) ∙ getD-replicate 64 i leaf zeroNode l;
     }
 
 -- its names
@@ -153,9 +174,9 @@ name-own : (i j : ℕ) → longestName i ≡ longestName j → i ≡ j
 unfolding longestName
 name-own i j e = omega (arith, ap (λ x. getD x 0 0) e)
 
-longest-named : SoundNames longestPlan longestNames
+longest-named : (edition : ℕ) → SoundNames (longestPlan edition) longestNames
 unfolding longestPlan longestNames
-longest-named =
+longest-named edition =
     record {
       count = length-filled longestName (replicate 64 []) 64 ∙ length-replicate {A = List ℕ} 64 [];
       some = λ i l. rw (name-at i l, name-long i) (omega arith);
@@ -164,9 +185,9 @@ longest-named =
       distinct = λ i j l m e. name-own i j (sym (name-at i l) ∙ e ∙ name-at j m);
     }
 
-longest-file : FileOf longestFile longestPlan longestNames
+longest-file : (edition : ℕ) → FileOf (longestFile edition) (longestPlan edition) longestNames
 unfolding longestFile longestPlan
-longest-file =
+longest-file edition =
     record {
       tidy =
           record {
@@ -175,7 +196,7 @@ longest-file =
             supplies-zero = λ i l m. absurd (omega arith);
             nodes-zero = λ i l m. absurd (omega arith);
           };
-      named = longest-named;
+      named = longest-named edition;
       laid = refl;
     }
 
@@ -184,18 +205,24 @@ part-long : (i : ℕ) → i < 64 → length (namePart longestNames i) ≡ 33
 unfolding namePart nameBytes
 part-long i l = rw (name-at i l) (omega (arith, name-long i))
 
-longest-length : length longestFile ≡ 2796
+longest-length : (edition : ℕ) → length (longestFile edition) ≡ 2796 + (more edition 8 + more edition 256)
 unfolding longestFile longestPlan
-longest-length =
+longest-length edition =
     let names = lays-end (namePart longestNames) (λ i. 33 * i) 64 (λ i l. omega (arith, part-long i l)) in
-    omega (arith, plan-length longestPlan longestNames)
+    omega (arith, plan-length (longestPlan edition) longestNames)
 
--- the file has 2,796 bytes, and is accepted
-pub longest-reached : LongestReached
+-- the file is accepted
+reaches : (edition n : ℕ) → (edition ≡ 1) ⊎ (edition ≡ 2) → 2796 + (more edition 8 + more edition 256) ≡ n → Reaches edition n
 unfolding readPlan
-longest-reached =
-    let fit = even-fit longestPlan longest-even in (
-      files-are-bytes longestFile longestPlan longestNames longest-file (fit .sound),
-      longest-length,
-      ap said (fit-accepted longestFile longestPlan longestNames longest-file fit),
+reaches edition n is long =
+    let plan = longestPlan edition in
+    let file = longest-file edition in
+    let fit = even-fit plan (longest-even edition is) in (
+      files-are-bytes (longestFile edition) plan longestNames file (fit .sound),
+      longest-length edition ∙ long,
+      ap said (fit-accepted (longestFile edition) plan longestNames file fit),
     )
+
+pub longest-reached : LongestReached
+unfolding further editionOf byteAt
+longest-reached = (reaches 1 2796 (inl refl) refl, reaches 2 3060 (inr refl) refl)

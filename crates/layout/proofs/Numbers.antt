@@ -1,6 +1,6 @@
 -- Numbers and types in little-endian bytes, there and back. Assumes nothing.
 use Prim.Native.Nat.{ℕ, zero, suc, _+_, _*_, _/_, _%_, _≤_, _<_}
-use mathlib.Core.List.{List, [], _∷_}
+use mathlib.Core.List.{List, [], _∷_, _++_}
 use mathlib.Core.Path.{_≡_, sym, ap, _∙_}
 use native.Mathlib.Decide.{decLt}
 use native.Mathlib.Nat.{add-zero}
@@ -56,7 +56,12 @@ module _ (s : List ℕ) (small : Bytes s) where
       let high = byte-small s small (k + 1) in
       cons-held s k _ _ (omega arith) (omega arith) (byte-held s (k + 1) _ (omega arith) (omega arith))
 
-  -- and four bytes
+  -- and four bytes two numbers
+  pub pair-held : (k : ℕ) → k + 4 ≤ length s → Holds s k (twoBytes (twoAt s k) ++ twoBytes (twoAt s (k + 2)))
+  unfolding twoBytes
+  pair-held k h = holds-join s k (twoBytes (twoAt s k)) (twoBytes (twoAt s (k + 2))) (two-held k (omega arith)) (two-held (k + 2) (omega arith))
+
+  -- or one
   pub four-held : (k : ℕ) → k + 4 ≤ length s → Holds s k (fourBytes (fourAt s k))
   unfolding fourBytes fourAt twoBytes
   four-held k h =
@@ -64,30 +69,37 @@ module _ (s : List ℕ) (small : Bytes s) where
       let b = twoAt s (k + 2) in
       let low : (a + 65536 * b) % 65536 ≡ a = omega (arith, two-small k) in
       let high : (a + 65536 * b) / 65536 ≡ b = omega (arith, two-small k) in
-      rw (low, high) (holds-join s k (twoBytes a) (twoBytes b) (two-held k (omega arith)) (two-held (k + 2) (omega arith)))
+      rw (low, high) (pair-held k h)
 
   -- and a type's four bytes the type
   pub type-held : (k : ℕ) → k + 4 ≤ length s → Holds s k (typeBytes (typeAt s k))
-  unfolding typeBytes typeAt twoBytes
-  type-held k h = holds-join s k (twoBytes (twoAt s k)) (twoBytes (twoAt s (k + 2))) (two-held k (omega arith)) (two-held (k + 2) (omega arith))
+  unfolding typeBytes typeAt
+  type-held k h = pair-held k h
 
 -- a number below 2^16 that two bytes hold is the one that they spell
 pub two-read : (s : List ℕ) (k n : ℕ) → n < 65536 → Holds s k (twoBytes n) → twoAt s k ≡ n
 unfolding twoBytes twoAt
 two-read s k n small h = omega (arith, byte-read s k _ _ h, byte-read s (k + 1) _ _ (rest-held s k _ _ h))
 
+-- and so are two
+module _ (s : List ℕ) (k m n : ℕ) (low : m < 65536) (high : n < 65536) (h : Holds s k (twoBytes m ++ twoBytes n)) where
+  pub pair-read : (twoAt s k ≡ m) × (twoAt s (k + 2) ≡ n)
+  unfolding twoBytes
+  pair-read = (
+    two-read s k m low (holds-left s k (twoBytes m) (twoBytes n) h),
+    two-read s (k + 2) n high (holds-right s k (twoBytes m) (twoBytes n) h),
+  )
+
 -- and one below 2^32 in four bytes
 pub four-read : (s : List ℕ) (k n : ℕ) → n < 65536 * 65536 → Holds s k (fourBytes n) → fourAt s k ≡ n
-unfolding fourBytes fourAt twoBytes
+unfolding fourBytes fourAt
 four-read s k n small h =
-    let low = two-read s k (n % 65536) (omega arith) (holds-left s k (twoBytes (n % 65536)) (twoBytes (n / 65536)) h) in
-    let high = two-read s (k + 2) (n / 65536) (omega arith) (holds-right s k (twoBytes (n % 65536)) (twoBytes (n / 65536)) h) in
+    let (low, high) = pair-read s k (n % 65536) (n / 65536) (omega arith) (omega arith) h in
     omega arith
 
 -- and a type of such numbers
 pub type-read : (s : List ℕ) (k : ℕ) (a : SlotType) → a .c < 65536 → a .t < 65536 → Holds s k (typeBytes a) → typeAt s k ≡ a
-unfolding typeBytes typeAt twoBytes
+unfolding typeBytes typeAt
 type-read s k a c t h =
-    let count = two-read s k (a .c) c (holds-left s k (twoBytes (a .c)) (twoBytes (a .t)) h) in
-    let period = two-read s (k + 2) (a .t) t (holds-right s k (twoBytes (a .c)) (twoBytes (a .t)) h) in
+    let (count, period) = pair-read s k (a .c) (a .t) c t h in
     λ i. record { c = count i; t = period i }

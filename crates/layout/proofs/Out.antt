@@ -6,15 +6,19 @@ use native.Mathlib.Decide.{decLt}
 use native.Mathlib.Omega.{arith}
 use lib.ListN.{length, take}
 use lib.Seq.{take-all}
-use Rattle.decode.specs.Positions.{coresOf, supplyStart, nodesAt, sizeOf, nodeStart, namesAt, nameStart, endAt}
+use Rattle.plans.specs.Plan.{nodeAt}
+use Rattle.fields.specs.Fields.{byteAt}
+use Rattle.decode.specs.Positions.{editionOf, further, coresAt, coresOf, supplyStart, nodesAt, sizeOf, nodeStart, namesAt, nameStart, endAt}
 use Rattle.decode.specs.Decode.{supplyOf, planOf}
+use Rattle.decode.proofs.Editions.{further-most, next-node}
 use Rattle.decode.proofs.Entries.{supply-spelled, node-spelled, plan-tidy}
 use Rattle.reader.proofs.Accepts.{FieldsKept}
 use Rattle.reader.proofs.Spelled.{eight-cores, sixty-four-nodes}
-use Rattle.layout.specs.Layout.{twoBytes, typeBytes, nodeBytes, nameBytes, supplyPart, nodePart, namePart, planBytes, SoundNames}
+use Rattle.layout.specs.Layout.{twoBytes, typeBytes, spareBytes, nameBytes, supplyPart, nodePart, namePart, planBytes, SoundNames}
 use Rattle.layout.specs.Promises.{Bytes, FileOf}
 use Rattle.layout.proofs.Holds.{Holds, holds-part, holds-at, lays-end, lays-held}
 use Rattle.layout.proofs.Numbers.{byte-held, four-held, type-held}
+use Rattle.layout.proofs.Widths.{further-more, spare-length, spare-zero, node-length}
 use Rattle.layout.proofs.Nodes.{node-held}
 use Rattle.layout.proofs.Names.{nameIn, namesOf, names-count, names-at, name-length, name-letter, name-held, equal-same}
 use Rattle.layout.proofs.Laid.{Laid, plan-length, laid-held}
@@ -52,13 +56,13 @@ module _ (s : List ℕ) (h : FieldsKept s) where
       }
 
   -- each supply, each node and each name starts where the one before it ends
-  supply-step : (i : ℕ) → supplyStart (suc i) ≡ supplyStart i + length (supplyPart (planOf s) i)
+  supply-step : (i : ℕ) → supplyStart s (suc i) ≡ supplyStart s i + length (supplyPart (planOf s) i)
   unfolding supplyStart supplyPart typeBytes twoBytes
   supply-step i = omega arith
 
   node-step : (i : ℕ) → nodeStart s (suc i) ≡ nodeStart s i + length (nodePart (planOf s) i)
-  unfolding nodeStart nodePart nodeBytes typeBytes twoBytes
-  node-step i = omega arith
+  unfolding nodePart planOf
+  node-step i = omega (arith, next-node s i, further-more s (editionOf s) 4 refl, node-length (editionOf s) (nodeAt (planOf s) i))
 
   name-step : (i : ℕ) → i < sizeOf s → nameStart s (suc i) ≡ nameStart s i + length (namePart (namesOf s) i)
   unfolding nameStart namePart nameBytes
@@ -71,35 +75,48 @@ module _ (s : List ℕ) (h : FieldsKept s) where
 
   module _ (small : Bytes s) where
     -- and so are each supply and each node, where the bytes are bytes
-    supply-at : (i : ℕ) → i < coresOf s → Holds s (supplyStart i) (supplyPart (planOf s) i)
+    supply-at : (i : ℕ) → i < coresOf s → Holds s (supplyStart s i) (supplyPart (planOf s) i)
     unfolding supplyPart supplyOf
-    supply-at i l = rw (supply-spelled s i l (omega (arith, eight-cores s h))) (type-held s small (supplyStart i) (h .supplies i l .whole))
+    supply-at i l = rw (supply-spelled s i l (omega (arith, eight-cores s h))) (type-held s small (supplyStart s i) (h .supplies i l .whole))
 
     node-at : (i : ℕ) → i < sizeOf s → Holds s (nodeStart s i) (nodePart (planOf s) i)
-    unfolding nodePart
+    unfolding nodePart planOf
     node-at i l = rw (node-spelled s i l (omega (arith, sixty-four-nodes s h))) (node-held s small i (h .nodes i l))
+
+    -- and the spare bytes
+    spare-held : Holds s 9 (spareBytes (editionOf s))
+    unfolding coresAt
+    spare-held =
+        let long : length (spareBytes (editionOf s)) ≡ further s 8 = spare-length (editionOf s) ∙ sym (further-more s (editionOf s) 8 refl) in
+        record {
+          within = omega (arith, h .cores .whole);
+          bytes = λ j l. h .spare j (omega arith) ∙ sym (spare-zero (editionOf s) j);
+        }
 
     -- the bytes hold each part at its place
     pub spelled-laid : Laid s (planOf s) (namesOf s)
-    unfolding planOf coresOf supplyStart nodesAt sizeOf nodeStart namesAt nameStart endAt
+    unfolding planOf byteAt editionOf further coresAt coresOf supplyStart nodesAt sizeOf nodeStart namesAt nameStart
     spelled-laid =
         record {
-          one = byte-held s 0 1 (omega (arith, h .cores .whole)) (h .one);
+          edition = byte-held s 0 _ (omega (arith, h .p .whole)) refl;
           p = four-held s small 1 (h .p .whole);
           q = four-held s small 5 (h .q .whole);
-          cores = byte-held s 9 _ (h .cores .whole) refl;
-          supplies = lays-held (supplyPart (planOf s)) supplyStart s (coresOf s) (λ i l. supply-step i) (h .cores .whole) supply-at;
+          spare = spare-held;
+          cores = byte-held s (coresAt s) _ (h .cores .whole) refl;
+          supplies =
+              holds-at s (supplyStart s 0) _ _ (omega arith)
+              (lays-held (supplyPart (planOf s)) (supplyStart s) s (coresOf s) (λ i l. supply-step i) (omega (arith, h .cores .whole)) supply-at);
           size = byte-held s (nodesAt s) _ (h .size .whole) refl;
           nodes =
-              holds-at s (nodeStart s 0) _ _ (omega arith)
-              (lays-held (nodePart (planOf s)) (nodeStart s) s (sizeOf s) (λ i l. node-step i) (omega (arith, h .size .whole)) node-at);
+              holds-at s (nodeStart s 0) _ _ (omega (arith, further-most s 0))
+              (lays-held (nodePart (planOf s)) (nodeStart s) s (sizeOf s) (λ i l. node-step i) (omega (arith, h .size .whole, further-most s 0)) node-at);
           count = byte-held s (namesAt s) _ (h .count-there) (h .count);
           named = lays-held (namePart (namesOf s)) (nameStart s) s (sizeOf s) name-step (h .count-there) name-at;
         }
 
     -- the file of what they spell ends where their last name does,
     spelled-length : length (planBytes (planOf s) (namesOf s)) ≡ endAt s
-    unfolding planOf coresOf supplyStart nodesAt sizeOf nodeStart namesAt nameStart endAt
+    unfolding planOf byteAt editionOf further coresAt coresOf supplyStart nodesAt sizeOf nodeStart namesAt nameStart endAt
     spelled-length = plan-length (planOf s) (namesOf s) ∙ sym (lays-end (namePart (namesOf s)) (nameStart s) (sizeOf s) name-step)
 
     -- and they begin with it

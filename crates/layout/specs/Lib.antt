@@ -1,3 +1,4 @@
 pub mod Layout
+pub mod Before
 pub mod Promises
 pub mod Longest

@@ -1,10 +1,12 @@
--- A plan file of the greatest length: eight supplies, 64 nodes and names of 32 bytes. Document 01: "The longest plan has 2,796 bytes". Assumes nothing.
+-- A plan file of the greatest length, in each edition: eight supplies, 64 nodes and names of 32 bytes. Document 01: "The longest plan has 2,796 bytes", and
+-- 264 more in edition 2. Assumes nothing.
 use Prim.Native.Nat.{ℕ, _+_}
 use mathlib.Core.List.{List, [], _∷_}
 use mathlib.Core.Path.{_≡_}
 use lib.ListN.{length, replicate}
 use Rattle.meaning.specs.declared.SlotType.{SlotType}
 use Rattle.answers.specs.Answers.{accepted, said}
+use Rattle.plans.specs.Plan.{noMisses}
 use Rattle.plans.specs.declared.NodeKind.the-variants.{AlignedLeaf}
 use Rattle.plans.specs.declared.Parent.the-variants.{Supply}
 use Rattle.plans.specs.declared.Node.{Node}
@@ -23,11 +25,12 @@ once = record { c = 1; t = 64 }
 
 -- a leaf under the first supply that wants one slot in 64, and is served just that
 abbrev pub leaf : Node
-leaf = record { kind = AlignedLeaf; parent = Supply 0; wanted = once; served = once }
+leaf = record { kind = AlignedLeaf; parent = Supply 0; wanted = once; misses = noMisses; served = once }
 
-unfoldable pub longestPlan : Plan
-longestPlan =
+unfoldable pub longestPlan : ℕ → Plan
+longestPlan edition =
     record {
+      edition = edition;
       tick = record { p = 1; q = 1 };
       cores = 8;
       supplies = replicate 8 every;
@@ -42,9 +45,14 @@ longestName i = (33 + i) ∷ replicate 31 97
 unfoldable pub longestNames : List (List ℕ)
 longestNames = filled longestName (replicate 64 []) 64
 
-unfoldable pub longestFile : List ℕ
-longestFile = planBytes longestPlan longestNames
+unfoldable pub longestFile : ℕ → List ℕ
+longestFile edition = planBytes (longestPlan edition) longestNames
 
--- The file has 2,796 bytes, and is accepted.
+-- the file of that edition has so many bytes, and is accepted
+abbrev pub Reaches : ℕ → ℕ → Type 0
+Reaches edition n =
+    Bytes (longestFile edition) × (length (longestFile edition) ≡ n) × (said (readPlan (longestFile edition) .answer) ≡ accepted)
+
+-- It has 2,796 bytes in edition 1, and 3,060 in edition 2.
 abbrev pub LongestReached : Type 0
-LongestReached = Bytes longestFile × (length longestFile ≡ 2796) × (said (readPlan longestFile .answer) ≡ accepted)
+LongestReached = Reaches 1 2796 × Reaches 2 3060

@@ -1,8 +1,8 @@
--- What ties the bytes of a plan file to plan values, both ways: document 01, "The plan file" and demand 2. Why each holds is in proofs/.
--- Assumes nothing.
+-- What ties the bytes of a plan file to plan values, both ways: document 01, "The plan file" and demand 2, and document 02, request 6. Both
+-- editions alike, unless said. Why each holds is in proofs/. Assumes nothing.
 use Prim.Native.Nat.{ℕ, _≤_, _<_}
 use mathlib.Core.List.{List, []}
-use mathlib.Core.Logic.{_↔_}
+use mathlib.Core.Logic.{_⊎_, _↔_}
 use mathlib.Core.Path.{_≡_}
 use lib.ListN.{length, getD, take}
 use Rattle.answers.specs.Answers.{Place, at, accepted, refused, said}
@@ -35,35 +35,43 @@ AcceptsExactly =
     (s : List ℕ) → Bytes s → (plan : Plan) →
     ((said (readPlan s .answer) ≡ accepted) × (readPlan s .plan ≡ plan)) ↔ ((names : List (List ℕ)) × FileOf s plan names × Fit plan)
 
--- 02, request 2: "Plans accepted before stay accepted": the file of a value that kept the rules as document 01 has them is accepted, with that value
+-- 02, request 2: "Plans accepted before stay accepted": the file of a value of edition 1 that kept the rules as document 01 has them is accepted, with that
+-- value. That such a file is laid out as document 01 has it is FirstEditionLaid of Before.
 abbrev pub StaysAccepted : Type 0
 StaysAccepted =
     (s : List ℕ) (plan : Plan) (names : List (List ℕ)) → FileOf s plan names → FitBefore plan →
     (said (readPlan s .answer) ≡ accepted) × (readPlan s .plan ≡ plan)
 
--- Refusals 1 to 10 are given exactly when the bytes are the file of no sound value with sound names.
+-- the refusals of the bytes, and those of the rules
+abbrev pub ByBytes : ℕ → Type 0
+ByBytes r = ((1 ≤ r) × (r ≤ 10)) ⊎ (r ≡ 19)
+
+abbrev pub ByRules : ℕ → Type 0
+ByRules r = ((11 ≤ r) × (r ≤ 14)) ⊎ (r ≡ 20)
+
+-- Refusals 1 to 10 and 19 are given exactly when the bytes are the file of no sound value with sound names.
 abbrev pub RefusesByBytes : Type 0
 RefusesByBytes =
     (s : List ℕ) → Bytes s →
-    ((r : ℕ) × (k : ℕ) × (1 ≤ r) × (r ≤ 10) × (said (readPlan s .answer) ≡ refused r (at k))) ↔ (SoundFile s → ⊥)
+    ((r : ℕ) × (k : ℕ) × ByBytes r × (said (readPlan s .answer) ≡ refused r (at k))) ↔ (SoundFile s → ⊥)
 
 -- 01, refusal 10: "bytes left over: first of them": given at k exactly when the first k bytes are such a file, and there are more.
 abbrev pub LeftOverExactly : Type 0
 LeftOverExactly =
     (s : List ℕ) → Bytes s → (k : ℕ) → (said (readPlan s .answer) ≡ refused 10 (at k)) ↔ (SoundFile (take k s) × (k < length s))
 
--- Refusals 11 to 14 are given exactly when the bytes are the file of a sound value, and that rule is the first broken one, at that place.
+-- Refusals 11 to 14 and 20 are given exactly when the bytes are the file of a sound value, and that rule is the first broken one, at that place.
 abbrev pub RefusesByRules : Type 0
 RefusesByRules =
-    (s : List ℕ) → Bytes s → (r k : ℕ) → 11 ≤ r → r ≤ 14 →
+    (s : List ℕ) → Bytes s → (r k : ℕ) → ByRules r →
     (said (readPlan s .answer) ≡ refused r (at k)) ↔
     ((plan : Plan) × (names : List (List ℕ)) × FileOf s plan names × Sound plan × FirstBrokenAt plan r k)
 
--- Every refusal of a read has a number from 1 to 14, and a place.
+-- Every refusal of a read is one of these, and has a place.
 abbrev pub RefusesAtPlace : Type 0
 RefusesAtPlace =
     (s : List ℕ) → Bytes s → (r : ℕ) (p : Place) → said (readPlan s .answer) ≡ refused r p →
-    (1 ≤ r) × (r ≤ 14) × ((k : ℕ) × (p ≡ at k))
+    (ByBytes r ⊎ ByRules r) × ((k : ℕ) × (p ≡ at k))
 
 -- A file has one reading.
 abbrev pub OneReading : Type 0
@@ -81,10 +89,12 @@ NamesPlaced =
     (s : List ℕ) (plan : Plan) (names : List (List ℕ)) → FileOf s plan names → Fit plan → (i : ℕ) → There plan i →
     nameOf s i ≡ getD names i []
 
--- 01: "The longest plan has 2,796 bytes": no accepted one has more, and Longest has one of so many
+-- 01: "The longest plan has 2,796 bytes", which is so of edition 1: no accepted one of it has more, and none of edition 2 has more than 3,060. Longest has
+-- one of so many in each.
 abbrev pub LongestPlan : Type 0
-LongestPlan = (s : List ℕ) → said (readPlan s .answer) ≡ accepted → length s ≤ 2796
+LongestPlan =
+    (s : List ℕ) → said (readPlan s .answer) ≡ accepted → (length s ≤ 3060) × (readPlan s .plan .edition ≡ 1 → length s ≤ 2796)
 
--- A longer file is answered by its first part: what stands beyond byte 2,797 changes nothing.
+-- A longer file is answered by its first part: what stands beyond byte 3,061 changes nothing.
 abbrev pub LongerAlike : Type 0
-LongerAlike = (s : List ℕ) (n : ℕ) → 2797 ≤ n → readPlan (take n s) ≡ readPlan s
+LongerAlike = (s : List ℕ) (n : ℕ) → 3061 ≤ n → readPlan (take n s) ≡ readPlan s

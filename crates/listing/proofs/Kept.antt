@@ -59,7 +59,7 @@ refused-text : (s : List ℕ) (r k : ℕ) → readPlan s .answer ≡ Refused r k
 unfolding text
 refused-text s r k e = rw e
 
--- what stands beyond byte 2,797 changes nothing: an accepted plan ends before it, and a refused one is answered alike
+-- what stands beyond byte 3,061 changes nothing: an accepted plan ends before it, and a refused one is answered alike
 pub longer-listed : LongerListed
 longer-listed s n l = go (readPlan s .answer) refl
   where

@@ -3,3 +3,4 @@ pub mod Spelled
 pub mod Kept
 pub mod Checks
 pub mod Handed
+pub mod Before

@@ -1,3 +1,4 @@
 pub mod Read
 pub mod Part
+pub mod Before
 pub mod Promises

@@ -93,7 +93,7 @@ module _ (plan state : List ℕ) (b : Bool) (e : b ≡ areWhole plan state) wher
   -- right, they are 65 of a state
   pub whole-state : b ≡ true → length state ≡ 65
   unfolding areWhole
-  whole-state h = eqb-true (length state) 65 (right-true (eqb (length plan) 404) (eqb (length state) 65) (sym e ∙ h))
+  whole-state h = eqb-true (length state) 65 (right-true (eqb (length plan) 533) (eqb (length state) 65) (sym e ∙ h))
 
   -- where they are not right a fresh start leaves the state as it was
   pub fresh-misfit : b ≡ false → (x : ℕ) → x ≡ refusal 17 placeless → (x, state) ≡ freshening plan state

@@ -1,4 +1,4 @@
--- Every refusal of a read has a number from 1 to 14 and a place that the high half holds; and halves are read back. Assumes nothing.
+-- Every refusal of a read has one of a read's numbers, and a place that the high half holds; and halves are read back. Assumes nothing.
 use native.Mathlib.Omega.{arith}
 use Rattle.layout.proofs.Kept.{refusal-early}
 use Rattle.exports.specs.Exports.{refusal}
@@ -12,5 +12,5 @@ halves number place h = (omega arith, omega arith)
 -- every refusal of a read is told whole
 pub reads-told : ReadsTold
 reads-told bytes small number place e =
-    let (least, most, early) = refusal-early bytes small number place e in
-    record { least = least; most = most; held = omega arith }
+    let (known, early) = refusal-early bytes small number place e in
+    record { known = known; held = omega arith }

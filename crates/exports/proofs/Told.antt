@@ -93,10 +93,10 @@ module _ (gives : ℕ) (giver : SlotType) (wants : ℕ) (wanted : SlotType) (out
 
 -- reading
 module _ (bytes lent : List ℕ) where
-  -- a plan of another length than 404
-  pub read-misfit : (length lent ≡ 404 → ⊥) → (x : ℕ) → x ≡ refusal 17 placeless → (x, lent) ≡ reading bytes lent
+  -- a plan of another length than 533
+  pub read-misfit : (length lent ≡ 533 → ⊥) → (x : ℕ) → x ≡ refusal 17 placeless → (x, lent) ≡ reading bytes lent
   unfolding reading
-  read-misfit h x e = rw (ne-eqb (length lent) 404 h, e)
+  read-misfit h x e = rw (ne-eqb (length lent) 533 h, e)
 
   -- the counts of a value that is handed out are small
   few : (readPlan bytes .plan .cores ≤ 8) × (readPlan bytes .plan .size ≤ 64)
@@ -108,12 +108,12 @@ module _ (bytes lent : List ℕ) where
       go (Refused r k) e = let zeros = refused-zeros bytes r k e in (rw zeros (omega arith), rw zeros (omega arith))
 
   -- so that it is laid down, whatever the answer
-  pub read-laid : length lent ≡ 404 → (r : Reading) → r ≡ readPlan bytes → (b : Bool) (after : List ℕ) → (b, after) ≡ planLaid (r .plan) lent →
+  pub read-laid : length lent ≡ 533 → (r : Reading) → r ≡ readPlan bytes → (b : Bool) (after : List ℕ) → (b, after) ≡ planLaid (r .plan) lent →
       (x : ℕ) → x ≡ answerOf (r .answer) → (x, after) ≡ reading bytes lent
   unfolding reading
   read-laid whole r is b after laid x e =
       let down = plan-down (readPlan bytes .plan) lent whole (omega (arith, few .0)) (omega (arith, few .1)) b after (rw is at laid) in
-      rw (eq-eqb (length lent) 404 whole, down, e, is)
+      rw (eq-eqb (length lent) 533 whole, down, e, is)
 
 -- names
 module _ (bytes : List ℕ) (i : ℕ) (lent : List ℕ) where

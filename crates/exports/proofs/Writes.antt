@@ -116,9 +116,9 @@ refused-step setting plan state supplied declines grants whole eight =
 -- reads
 pub refused-read : RefusedRead
 unfolding reading answerOf
-refused-read bytes lent whole = rw (eq-eqb (length lent) 404 whole) (go (readPlan bytes .answer) refl)
+refused-read bytes lent whole = rw (eq-eqb (length lent) 533 whole) (go (readPlan bytes .answer) refl)
   where
-    go : (a : Answer) → readPlan bytes .answer ≡ a → (answerOf a ≡ 0 → ⊥) → planNumbers (readPlan bytes .plan) ≡ replicate 404 0
+    go : (a : Answer) → readPlan bytes .answer ≡ a → (answerOf a ≡ 0 → ⊥) → planNumbers (readPlan bytes .plan) ≡ replicate 533 0
     go Accepted e h = absurd (h refl)
     go (Refused r k) e h = ap planNumbers (refused-zeros bytes r k e) ∙ zeros-laid
 

@@ -88,7 +88,7 @@ answerOf (Refused r k) = refusal r k
 
 unfoldable pub reading : List ℕ → List ℕ → ℕ × List ℕ
 reading bytes lent =
-    cond (eqb (length lent) 404) (answerOf (readPlan bytes .answer), planNumbers (readPlan bytes .plan)) (misfit, lent)
+    cond (eqb (length lent) 533) (answerOf (readPlan bytes .answer), planNumbers (readPlan bytes .plan)) (misfit, lent)
 
 -- mettulos_name: the first byte and the length of the part that holds the name, or 0 and 0 where it is empty
 unfoldable pub span : List ℕ → ℕ → List ℕ
@@ -144,7 +144,7 @@ keeping (runs.refused r) after lent = (refusal r placeless, lent)
 
 -- whether a plan and a state have the lengths that they are to have
 unfoldable pub areWhole : List ℕ → List ℕ → Bool
-areWhole plan state = eqb (length plan) 404 && eqb (length state) 65
+areWhole plan state = eqb (length plan) 533 && eqb (length state) 65
 
 -- mettulos_fresh: the state's numbers, which are zeros where the value is refused
 unfoldable pub freshening : List ℕ → List ℕ → ℕ × List ℕ

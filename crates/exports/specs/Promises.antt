@@ -3,15 +3,20 @@
 use Prim.Native.Nat.{ℕ, _/_, _%_, _≤_, _<_, min}
 use mathlib.Core.Bool.{true, false, _&&_}
 use mathlib.Core.List.{List}
+use mathlib.Core.Logic.{_⊎_}
 use mathlib.Core.Path.{_≡_}
 use lib.ListN.{length, getD, take, drop, replicate}
 use Rattle.ticks.specs.Times.{Said}
+use Rattle.meaning.specs.Soft.{withinRange}
 use Rattle.meaning.specs.declared.SlotType.{SlotType}
 use Rattle.answers.specs.declared.Answer.the-variants.{Accepted, Refused}
+use Rattle.plans.specs.Plan.{There, missesOf, isHost, noMisses}
+use Rattle.plans.specs.declared.Plan.{Plan}
+use Rattle.rules.specs.Fit.{Rule20}
 use Rattle.reader.specs.Read.{readPlan, nameOf}
-use Rattle.layout.specs.Promises.{Bytes}
+use Rattle.layout.specs.Promises.{Bytes, ByBytes, ByRules}
 use Rattle.dispatch.specs.Slot.{unsupplied}
-use Rattle.numbers.specs.Numbers.{isPlan, isState}
+use Rattle.numbers.specs.Numbers.{planOfNumbers, isPlan, isState}
 use Rattle.numbers.specs.Promises.{LaidOut}
 use Rattle.exports.specs.Exports.{placeless, refusal, telling, deciding, reading, span, areWhole, freshening, stepping, running}
 
@@ -29,10 +34,9 @@ Halves =
     (number place : ℕ) → number < 0x1_0000_0000 →
     (refusal number place % 0x1_0000_0000 ≡ number) × (refusal number place / 0x1_0000_0000 ≡ min place placeless)
 
--- A refused read has a number from 1 to 14, so that its answer is not 0, and a place that its half holds.
+-- A refused read has a number from 1 to 14, or 19 or 20, so that its answer is not 0, and a place that its half holds.
 pub record Told (number place : ℕ) : Type 0 where
-  pub least : 1 ≤ number
-  pub most : number ≤ 14
+  pub known : ByBytes number ⊎ ByRules number
   pub held : place < placeless
 
 abbrev pub ReadsTold : Type 0
@@ -62,7 +66,7 @@ RefusedStep =
 
 -- of a read, zeros
 abbrev pub RefusedRead : Type 0
-RefusedRead = (bytes lent : List ℕ) → length lent ≡ 404 → let w = reading bytes lent in (w .0 ≡ 0 → ⊥) → w .1 ≡ replicate 404 0
+RefusedRead = (bytes lent : List ℕ) → length lent ≡ 533 → let w = reading bytes lent in (w .0 ≡ 0 → ⊥) → w .1 ≡ replicate 533 0
 
 -- of a fresh start, zeros
 abbrev pub RefusedFresh : Type 0
@@ -100,3 +104,24 @@ abbrev pub BeyondRun : Type 0
 BeyondRun =
     (setting : ℕ) (plan state supplies declines out : List ℕ) → areWhole plan state ≡ true → setting ≤ 1 → (isPlan plan && isState state) ≡ false →
     running setting plan state supplies declines out .0 ≡ refusal 16 placeless
+
+-- What document 02, request 6, has a plan value be unfit for: an edition that is neither 1 nor 2; 19, "bad D, W or a host with D above 0", and misses in
+-- edition 1 other than D 0 and W 1; 20, a soft leaf "not so made"
+pub data BadMisses (plan : Plan) : Type 0 where
+  neither : (plan .edition ≡ 1 → ⊥) → (plan .edition ≡ 2 → ⊥) → BadMisses plan
+  range : (i : ℕ) → There plan i → withinRange (missesOf plan i) ≡ false → BadMisses plan
+  host : (i : ℕ) → There plan i → isHost plan i ≡ true → 0 < missesOf plan i .d → BadMisses plan
+  first-edition : (i : ℕ) → There plan i → plan .edition ≡ 1 → (missesOf plan i ≡ noMisses → ⊥) → BadMisses plan
+  twenty : (i : ℕ) → There plan i → (Rule20 plan i → ⊥) → BadMisses plan
+
+-- every call with the plan of these numbers is refused by 16, once the lengths are right, under either setting
+pub record Sixteen (plan : List ℕ) : Type 0 where
+  pub fresh : (lent : List ℕ) → areWhole plan lent ≡ true → freshening plan lent .0 ≡ refusal 16 placeless
+  pub step : (setting : ℕ) (state : List ℕ) (supplied declines : ℕ) (grants : List ℕ) → areWhole plan state ≡ true → length grants ≡ 8 → setting ≤ 1 →
+      stepping setting plan state supplied declines grants .0 ≡ refusal 16 placeless
+  pub run : (setting : ℕ) (state supplies declines out : List ℕ) → areWhole plan state ≡ true → setting ≤ 1 →
+      running setting plan state supplies declines out .0 ≡ refusal 16 placeless
+
+-- 02: "16 covers 19 and 20"
+abbrev pub SixteenCovers : Type 0
+SixteenCovers = (plan : List ℕ) → BadMisses (planOfNumbers plan) → Sixteen plan

@@ -52,7 +52,7 @@ pub extern "C" fn mettulos_decide(
 pub extern "C" fn mettulos_read(bytes: &[u8], plan: &mut [u32]) -> u64
     ensures { λ r. ⌜ (r, now (plan .exit)) ≡ reading (now (bytes .entry)) (now (plan .entry)) ⌝ }
 {
-    if plan.len() != 404 {
+    if plan.len() != 533 {
         return refusals::refusal(17, refusals::PLACELESS);
     }
     let read = reader::read(bytes);

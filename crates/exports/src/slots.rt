@@ -14,7 +14,7 @@ use dispatch::Stepped;
 pub fn are_whole(plan: &[u32], state: &[u64]) -> bool
     ensures { λ r. ⌜ r ≡ areWhole (now (plan .entry)) (now (state .entry)) ⌝ }
 {
-    basics::both(plan.len() == 404, state.len() == 65)
+    basics::both(plan.len() == 533, state.len() == 65)
 }
 
 // Whether a number is that of a setting.

@@ -12,28 +12,28 @@ use Rattle.dispatch.specs.Run.{standing}
 use Rattle.dispatch.specs.declared.State.{State}
 use Rattle.numbers.specs.Numbers.{planNumbers, planLaid, stateNumbers, stateLaid}
 
--- a plan value is not laid down in another number than 404,
+-- a plan value is not laid down in another number than 533,
 module _ (plan : Plan) (l : List ℕ) where
-  pub plan-unlaid : (length l ≡ 404 → ⊥) → (false, l) ≡ planLaid plan l
+  pub plan-unlaid : (length l ≡ 533 → ⊥) → (false, l) ≡ planLaid plan l
   unfolding planLaid
-  plan-unlaid h = rw (ne-eqb (length l) 404 h)
+  plan-unlaid h = rw (ne-eqb (length l) 533 h)
 
-  module _ (whole : length l ≡ 404) where
+  module _ (whole : length l ≡ 533) where
     -- not with too many supplies,
     pub cores-unlaid : 4294967295 < plan .cores → (false, l) ≡ planLaid plan l
     unfolding planLaid
-    cores-unlaid h = rw (eq-eqb (length l) 404 whole, lt-leb (plan .cores) 4294967295 h)
+    cores-unlaid h = rw (eq-eqb (length l) 533 whole, lt-leb (plan .cores) 4294967295 h)
 
     module _ (few : plan .cores ≤ 4294967295) where
       -- not with too many nodes,
       pub size-unlaid : 4294967295 < plan .size → (false, l) ≡ planLaid plan l
       unfolding planLaid
-      size-unlaid h = rw (eq-eqb (length l) 404 whole, le-leb (plan .cores) 4294967295 few, lt-leb (plan .size) 4294967295 h)
+      size-unlaid h = rw (eq-eqb (length l) 533 whole, le-leb (plan .cores) 4294967295 few, lt-leb (plan .size) 4294967295 h)
 
       -- and otherwise it is
       pub plan-put : plan .size ≤ 4294967295 → (r : List ℕ) → r ≡ planNumbers plan → (true, r) ≡ planLaid plan l
       unfolding planLaid
-      plan-put h r e = rw (eq-eqb (length l) 404 whole, le-leb (plan .cores) 4294967295 few, le-leb (plan .size) 4294967295 h, e)
+      plan-put h r e = rw (eq-eqb (length l) 533 whole, le-leb (plan .cores) 4294967295 few, le-leb (plan .size) 4294967295 h, e)
 
       -- so that a caller that has seen to all this finds it laid down
       pub plan-down : plan .size ≤ 4294967295 → (b : Bool) (r : List ℕ) → (b, r) ≡ planLaid plan l → r ≡ planNumbers plan

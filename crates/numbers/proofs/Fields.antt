@@ -7,9 +7,10 @@ use native.Mathlib.Omega.{arith}
 use lib.Dec.{leb, eqb}
 use lib.ListN.{length, getD, replicate}
 use borrow.Author.Tests.{leb-true, lt-ltb, le-ltb, eq-eqb, ne-eqb, eqb-true}
-use mir.Syntax.{w16}
+use mir.Syntax.{w8, w16}
 use mir.Val.{Fits}
 use Rattle.meaning.specs.declared.SlotType.{SlotType}
+use Rattle.meaning.specs.declared.Misses.{Misses}
 use Rattle.plans.specs.Plan.{zeroType, zeroNode, zeroPlan}
 use Rattle.plans.specs.Sound.{all}
 use Rattle.plans.specs.declared.NodeKind.{NodeKind}
@@ -20,7 +21,7 @@ use Rattle.plans.specs.declared.Plan.{Plan}
 use Rattle.plans.proofs.All.{left-true, right-true, all-true-at}
 use Rattle.decode.specs.Decode.{kindNamed, parentOfByte, filled}
 use Rattle.numbers.specs.Numbers.{
-  isType,
+  isPair,
   isNode,
   isSupplyAt,
   isNodeAt,
@@ -28,6 +29,7 @@ use Rattle.numbers.specs.Numbers.{
   supplyPlace,
   nodePlace,
   typeFrom,
+  missesFrom,
   nodeFrom,
   supplyIn,
   nodeIn,
@@ -46,91 +48,110 @@ module _ (b : ℕ) where
   unfolding parentOfByte
   node-numbered h = rw (le-ltb b 128 h)
 
--- whether numbers are within a node's fields: its kind's and its parent's, and those of its two types
+-- whether numbers are within a node's fields: its kind's and its parent's, and those of its three pairs
 module _ (xs : List ℕ) (k : ℕ) where
   pub node-tests : (r a d : Bool) → r ≡ (a && d) → a ≡ (leb (getD xs k 0) 2 && leb (getD xs (k + 1) 0) 255) →
-      (b c : Bool) → d ≡ (b && c) → b ≡ isType xs (k + 2) → c ≡ isType xs (k + 4) → r ≡ isNode xs k
+      (b f : Bool) → d ≡ (b && f) → b ≡ isPair xs (k + 2) → (m c : Bool) → f ≡ (m && c) → m ≡ isPair xs (k + 4) → c ≡ isPair xs (k + 6) → r ≡ isNode xs k
   unfolding isNode
-  node-tests r a d e named b c types wanted served = rw (e, named, types, wanted, served)
+  node-tests r a d e named b f pairs wanted m c more misses served = rw (e, named, pairs, wanted, more, misses, served)
 
   -- what the numbers of a node say
   pub node-said : (kind : NodeKind) → kind ≡ kindNamed (getD xs k 0) → (parent : Parent) → parent ≡ parentOfByte (getD xs (k + 1) 0) →
-      (wanted served : SlotType) → wanted ≡ typeFrom xs (k + 2) → served ≡ typeFrom xs (k + 4) →
-      record { kind = kind; parent = parent; wanted = wanted; served = served } ≡ nodeFrom xs k
+      (wanted : SlotType) → wanted ≡ typeFrom xs (k + 2) → (misses : Misses) → misses ≡ missesFrom xs (k + 4) →
+      (served : SlotType) → served ≡ typeFrom xs (k + 6) →
+      record { kind = kind; parent = parent; wanted = wanted; misses = misses; served = served } ≡ nodeFrom xs k
   unfolding nodeFrom
-  node-said kind k-is parent p-is wanted served w-is s-is = rw (k-is, p-is, w-is, s-is)
+  node-said kind k-is parent p-is wanted w-is misses m-is served s-is = rw (k-is, p-is, w-is, m-is, s-is)
 
 -- what the numbers of a plan value say
 pub value-said : (xs : List ℕ) (supplies : List SlotType) → supplies ≡ filled (supplyIn xs) (replicate 8 zeroType) 8 →
     (nodes : List Node) → nodes ≡ filled (nodeIn xs) (replicate 64 zeroNode) 64 →
     record {
-      tick = record { p = getD xs 0 0; q = getD xs 1 0 };
-      cores = getD xs 2 0;
+      edition = getD xs 0 0;
+      tick = record { p = getD xs 1 0; q = getD xs 2 0 };
+      cores = getD xs 3 0;
       supplies = supplies;
-      size = getD xs 19 0;
+      size = getD xs 20 0;
       nodes = nodes;
     } ≡ planIn xs
 unfolding planIn
 value-said xs supplies s-is nodes n-is = rw (s-is, n-is)
 
--- numbers within a type's fields
-module _ (xs : List ℕ) (k : ℕ) (e : isType xs k ≡ true) where
-  -- the first fits C
-  pub type-count-fits : Fits w16 (getD xs k 0)
-  unfolding isType
-  type-count-fits = let h = leb-true (getD xs k 0) 65535 (left-true (leb (getD xs k 0) 65535) (leb (getD xs (k + 1) 0) 65535) e) in record { fits = omega arith }
+-- a pair of numbers of 16 bits
+module _ (xs : List ℕ) (k : ℕ) (e : isPair xs k ≡ true) where
+  -- the first fits C, or D
+  pub first-fits : Fits w16 (getD xs k 0)
+  unfolding isPair
+  first-fits = let h = leb-true (getD xs k 0) 65535 (left-true (leb (getD xs k 0) 65535) (leb (getD xs (k + 1) 0) 65535) e) in record { fits = omega arith }
 
-  -- the second fits T
-  pub type-period-fits : Fits w16 (getD xs (k + 1) 0)
-  unfolding isType
-  type-period-fits = let h = leb-true (getD xs (k + 1) 0) 65535 (right-true (leb (getD xs k 0) 65535) (leb (getD xs (k + 1) 0) 65535) e) in record { fits = omega arith }
+  -- the second fits T, or W
+  pub second-fits : Fits w16 (getD xs (k + 1) 0)
+  unfolding isPair
+  second-fits = let h = leb-true (getD xs (k + 1) 0) 65535 (right-true (leb (getD xs k 0) 65535) (leb (getD xs (k + 1) 0) 65535) e) in record { fits = omega arith }
 
 -- numbers within a node's fields
 module _ (xs : List ℕ) (k : ℕ) (e : isNode xs k ≡ true) where
   named : (leb (getD xs k 0) 2 && leb (getD xs (k + 1) 0) 255) ≡ true
   unfolding isNode
-  named = left-true (leb (getD xs k 0) 2 && leb (getD xs (k + 1) 0) 255) (isType xs (k + 2) && isType xs (k + 4)) e
+  named = left-true (leb (getD xs k 0) 2 && leb (getD xs (k + 1) 0) 255) (isPair xs (k + 2) && (isPair xs (k + 4) && isPair xs (k + 6))) e
 
-  typed : (isType xs (k + 2) && isType xs (k + 4)) ≡ true
+  paired : (isPair xs (k + 2) && (isPair xs (k + 4) && isPair xs (k + 6))) ≡ true
   unfolding isNode
-  typed = right-true (leb (getD xs k 0) 2 && leb (getD xs (k + 1) 0) 255) (isType xs (k + 2) && isType xs (k + 4)) e
+  paired = right-true (leb (getD xs k 0) 2 && leb (getD xs (k + 1) 0) 255) (isPair xs (k + 2) && (isPair xs (k + 4) && isPair xs (k + 6))) e
+
+  last-paired : (isPair xs (k + 4) && isPair xs (k + 6)) ≡ true
+  last-paired = right-true (isPair xs (k + 2)) (isPair xs (k + 4) && isPair xs (k + 6)) paired
 
   -- the second is a parent byte
   pub node-parent-small : getD xs (k + 1) 0 ≤ 255
   node-parent-small = leb-true (getD xs (k + 1) 0) 255 (right-true (leb (getD xs k 0) 2) (leb (getD xs (k + 1) 0) 255) named)
 
-  -- the third and the fourth are within the fields of a type
-  pub node-wanted-fits : isType xs (k + 2) ≡ true
-  node-wanted-fits = left-true (isType xs (k + 2)) (isType xs (k + 4)) typed
+  -- the third and the fourth are such a pair,
+  pub node-wanted-fits : isPair xs (k + 2) ≡ true
+  node-wanted-fits = left-true (isPair xs (k + 2)) (isPair xs (k + 4) && isPair xs (k + 6)) paired
 
-  -- and so are the last two
-  pub node-served-fits : isType xs (k + 4) ≡ true
-  node-served-fits = right-true (isType xs (k + 2)) (isType xs (k + 4)) typed
+  -- so are the two after them,
+  pub node-misses-fits : isPair xs (k + 4) ≡ true
+  node-misses-fits = left-true (isPair xs (k + 4)) (isPair xs (k + 6)) last-paired
 
--- whether numbers are a plan value's: of another number than 404, and of 404
+  -- and the last two
+  pub node-served-fits : isPair xs (k + 6) ≡ true
+  node-served-fits = right-true (isPair xs (k + 4)) (isPair xs (k + 6)) last-paired
+
+-- whether numbers are a plan value's: of another number than 533, and of 533
 module _ (xs : List ℕ) where
-  pub plan-short : (length xs ≡ 404 → ⊥) → false ≡ isPlan xs
+  pub plan-short : (length xs ≡ 533 → ⊥) → false ≡ isPlan xs
   unfolding isPlan
-  plan-short h = rw (ne-eqb (length xs) 404 h)
+  plan-short h = rw (ne-eqb (length xs) 533 h)
 
-  -- the entries decide
-  pub plan-entries : length xs ≡ 404 → (a b r : Bool) → a ≡ all (isSupplyAt xs) 8 → b ≡ all (isNodeAt xs) 64 → r ≡ (a && b) → r ≡ isPlan xs
+  -- the edition and the entries decide
+  pub plan-entries : length xs ≡ 533 → (a b d r : Bool) → a ≡ all (isSupplyAt xs) 8 → b ≡ all (isNodeAt xs) 64 → d ≡ (a && b) →
+      r ≡ (leb (getD xs 0 0) 255 && d) → r ≡ isPlan xs
   unfolding isPlan
-  plan-entries whole a b r supplies nodes e = rw (eq-eqb (length xs) 404 whole, ← supplies, ← nodes, e)
+  plan-entries whole a b d r supplies nodes both e = rw (eq-eqb (length xs) 533 whole, ← supplies, ← nodes, ← both, e)
 
 -- numbers within a plan's fields
 module _ (xs : List ℕ) (e : isPlan xs ≡ true) where
-  entries : (all (isSupplyAt xs) 8 && all (isNodeAt xs) 64) ≡ true
+  fields : (leb (getD xs 0 0) 255 && (all (isSupplyAt xs) 8 && all (isNodeAt xs) 64)) ≡ true
   unfolding isPlan
-  entries = right-true (eqb (length xs) 404) (all (isSupplyAt xs) 8 && all (isNodeAt xs) 64) e
+  fields = right-true (eqb (length xs) 533) (leb (getD xs 0 0) 255 && (all (isSupplyAt xs) 8 && all (isNodeAt xs) 64)) e
 
-  -- those of supply i are within the fields of a type
-  pub supply-fits : (i : ℕ) → i < 8 → isType xs (3 + 2 * i) ≡ true
+  entries : (all (isSupplyAt xs) 8 && all (isNodeAt xs) 64) ≡ true
+  entries = right-true (leb (getD xs 0 0) 255) (all (isSupplyAt xs) 8 && all (isNodeAt xs) 64) fields
+
+  -- the first fits the edition
+  pub edition-fits : Fits w8 (getD xs 0 0)
+  edition-fits =
+      let h = leb-true (getD xs 0 0) 255 (left-true (leb (getD xs 0 0) 255) (all (isSupplyAt xs) 8 && all (isNodeAt xs) 64) fields) in
+      record { fits = omega arith }
+
+  -- those of supply i are a pair
+  pub supply-fits : (i : ℕ) → i < 8 → isPair xs (4 + 2 * i) ≡ true
   unfolding isSupplyAt supplyPlace
   supply-fits i l = all-true-at (isSupplyAt xs) 8 (left-true (all (isSupplyAt xs) 8) (all (isNodeAt xs) 64) entries) i l
 
   -- and those of node i within the fields of a node
-  pub node-fits : (i : ℕ) → i < 64 → isNode xs (20 + 6 * i) ≡ true
+  pub node-fits : (i : ℕ) → i < 64 → isNode xs (21 + 8 * i) ≡ true
   unfolding isNodeAt nodePlace
   node-fits i l = all-true-at (isNodeAt xs) 64 (right-true (all (isSupplyAt xs) 8) (all (isNodeAt xs) 64) entries) i l
 
@@ -146,10 +167,10 @@ module _ (xs : List ℕ) (b : Bool) (is : b ≡ isPlan xs) where
     pub plan-within : isPlan xs ≡ true
     plan-within = sym is ∙ h
 
-    -- and 404
-    pub plan-whole : length xs ≡ 404
+    -- and 533
+    pub plan-whole : length xs ≡ 533
     unfolding isPlan
-    plan-whole = eqb-true (length xs) 404 (left-true (eqb (length xs) 404) (all (isSupplyAt xs) 8 && all (isNodeAt xs) 64) (sym is ∙ h))
+    plan-whole = eqb-true (length xs) 533 (left-true (eqb (length xs) 533) _ (sym is ∙ h))
 
     -- and say it
     pub plan-said : (p : Plan) → p ≡ planIn xs → p ≡ planOfNumbers xs

@@ -1,6 +1,7 @@
 -- What specs/Promises.antt says of the numbers holds, and of every sound value. Assumes nothing.
 use Prim.Native.Nat.{ℕ, _≤_, _<_}
 use mathlib.Core.Bool.{true}
+use mathlib.Core.Logic.{_⊎_, inl, inr}
 use mathlib.Core.Path.{_≡_}
 use native.Mathlib.Decide.{decLt}
 use native.Mathlib.Numerals.{add-one}
@@ -8,8 +9,10 @@ use native.Mathlib.Omega.{arith}
 use lib.ListN.{length, getD}
 use borrow.Author.Tests.{le-leb, eq-eqb}
 use Rattle.meaning.specs.Types.{wellFormed}
+use Rattle.meaning.specs.Soft.{withinRange}
 use Rattle.meaning.specs.declared.SlotType.{SlotType}
-use Rattle.meaning.proofs.WellFormed.{bounds}
+use Rattle.meaning.specs.declared.Misses.{Misses}
+use Rattle.meaning.proofs.WellFormed.{bounds, within-bounds}
 use Rattle.plans.specs.Plan.{zeroType, zeroNode, supplyAt, nodeAt, Tidy}
 use Rattle.plans.specs.Sound.{Sound, Allowed, supply, host}
 use Rattle.plans.specs.declared.Parent.{Parent}
@@ -37,7 +40,7 @@ use Rattle.numbers.specs.Numbers.{
 }
 use Rattle.numbers.specs.Promises.{Nameable, Short, Held, HeldState, PlanLaidOut, EveryStateLaidOut}
 use Rattle.numbers.proofs.Laid.{plan-length}
-use Rattle.numbers.proofs.Back.{type-back, type-fit, node-back, node-fit, p-read, q-read, cores-read, size-read, supply-held, node-held}
+use Rattle.numbers.proofs.Back.{type-back, type-fit, node-back, node-fit, edition-read, p-read, q-read, cores-read, size-read, supply-held, node-held}
 
 module _ (plan : Plan) (held : Held plan) where
   supply-back : (i : ℕ) → i < 8 → supplyIn (planNumbers plan) i ≡ getD (plan .supplies) i zeroType
@@ -54,13 +57,15 @@ module _ (plan : Plan) (held : Held plan) where
 
   node-within : (i : ℕ) → i < 64 → isNodeAt (planNumbers plan) i ≡ true
   unfolding isNodeAt
-  node-within i l = node-fit _ _ _ (node-held plan i l) (held .parents i l) (held .wanted i l) (held .served i l)
+  node-within i l = node-fit _ _ _ (node-held plan i l) (held .parents i l) (held .wanted i l) (held .misses i l) (held .served i l)
 
   plan-fit : isPlan (planNumbers plan) ≡ true
   unfolding isPlan
   plan-fit =
       rw (
-        eq-eqb (length (planNumbers plan)) 404 (plan-length plan),
+        eq-eqb (length (planNumbers plan)) 533 (plan-length plan),
+        edition-read plan,
+        le-leb (plan .edition) 255 (omega (arith, held .edition)),
         all-true (isSupplyAt (planNumbers plan)) 8 supply-within,
         all-true (isNodeAt (planNumbers plan)) 64 node-within,
       )
@@ -70,6 +75,7 @@ module _ (plan : Plan) (held : Held plan) where
   plan-back =
       rw (
         plan-fit,
+        edition-read plan,
         p-read plan,
         q-read plan,
         cores-read plan,
@@ -106,8 +112,17 @@ pub state-laid-out : EveryStateLaidOut
 state-laid-out state held = record { fit = state-fit state held; back = state-back state held }
 
 -- the numbers of a well-formed type are of 16 bits
-formed-short : (a : SlotType) → wellFormed a ≡ true → Short a
-formed-short a e = let h = bounds a e in record { c = omega arith; t = omega arith }
+formed-short : (a : SlotType) → wellFormed a ≡ true → Short (a .c) (a .t)
+formed-short a e = let h = bounds a e in record { first = omega arith; second = omega arith }
+
+-- and so are those of misses in range
+range-short : (m : Misses) → withinRange m ≡ true → Short (m .d) (m .w)
+range-short m e = let h = within-bounds m e in record { first = omega arith; second = omega arith }
+
+-- there are editions 1 and 2 alone
+edition-small : (n : ℕ) → (n ≡ 1) ⊎ (n ≡ 2) → n < 256
+edition-small n (inl e) = omega arith
+edition-small n (inr e) = omega arith
 
 -- a parent that is allowed can be named
 allowed-nameable : (plan : Plan) (i : ℕ) → plan .cores ≤ 8 → i < 64 → (x : Parent) → Allowed plan i x → Nameable x
@@ -116,9 +131,12 @@ allowed-nameable plan i few l x (host h e) = omega arith
 
 -- so a sound value with zeros past its counts can be held
 module _ (plan : Plan) (tidy : Tidy plan) (sound : Sound plan) where
-  supply-short : (i : ℕ) → i < 8 → Dec (i < plan .cores) → Short (supplyAt plan i)
+  none-used : Short 0 0
+  none-used = record { first = omega arith; second = omega arith }
+
+  supply-short : (i : ℕ) → i < 8 → Dec (i < plan .cores) → Short (supplyAt plan i .c) (supplyAt plan i .t)
   supply-short i l (yes m) = formed-short (supplyAt plan i) (sound .supplies i m)
-  supply-short i l (no m) = rw (tidy .supplies-zero i (omega arith) l) (record { c = omega arith; t = omega arith })
+  supply-short i l (no m) = rw (tidy .supplies-zero i (omega arith) l) none-used
 
   -- what holds of every node that is there, and of the node of zeros, holds of every node
   each-node : (P : Node → Type 0) → P zeroNode → ((i : ℕ) → i < plan .size → P (nodeAt plan i)) → (i : ℕ) → i < 64 → P (getD (plan .nodes) i zeroNode)
@@ -130,13 +148,14 @@ module _ (plan : Plan) (tidy : Tidy plan) (sound : Sound plan) where
 
   pub sound-held : Held plan
   sound-held =
-      let none-used : Short zeroType = record { c = omega arith; t = omega arith } in
       record {
+        edition = edition-small (plan .edition) (sound .edition);
         supplies-whole = tidy .supplies-whole;
         nodes-whole = tidy .nodes-whole;
         supplies = λ i l. rw (supply-at-element plan i l) (supply-short i l (decLt i (plan .cores)));
-        wanted = each-node (λ n. Short (n .wanted)) none-used (λ i m. formed-short (nodeAt plan i .wanted) (sound .wanted i m));
-        served = each-node (λ n. Short (n .served)) none-used (λ i m. formed-short (nodeAt plan i .served) (sound .served i m));
+        wanted = each-node (λ n. Short (n .wanted .c) (n .wanted .t)) none-used (λ i m. formed-short (nodeAt plan i .wanted) (sound .wanted i m));
+        misses = each-node (λ n. Short (n .misses .d) (n .misses .w)) none-used (λ i m. range-short (nodeAt plan i .misses) (sound .misses i m));
+        served = each-node (λ n. Short (n .served .c) (n .served .t)) none-used (λ i m. formed-short (nodeAt plan i .served) (sound .served i m));
         parents =
             each-node (λ n. Nameable (n .parent)) (omega arith)
             (λ i m. allowed-nameable plan i (sound .eight-cores) (omega (arith, sound .sixty-four-nodes)) (nodeAt plan i .parent) (sound .parents i m));

@@ -1,5 +1,5 @@
 -- How a plan value is laid down, type by type and node by node. Assumes nothing.
-use Prim.Native.Nat.{ℕ, suc, _+_, _*_, _≤_}
+use Prim.Native.Nat.{ℕ, suc, _+_, _*_, _≤_, _<_}
 use mathlib.Core.List.{List, [], _∷_, _++_}
 use mathlib.Core.Path.{_≡_, refl, sym, ap, _∙_}
 use native.Mathlib.Nat.{le-antisymm}
@@ -17,29 +17,36 @@ use Rattle.plans.specs.declared.Node.{Node}
 use Rattle.plans.specs.declared.Plan.{Plan}
 use Rattle.layout.specs.Layout.{kindByte, parentByte, lays}
 use Rattle.layout.proofs.Holds.{lays-length}
-use Rattle.numbers.specs.Numbers.{typeNumbers, nodeNumbers, typePart, nodePart, planNumbers}
+use Rattle.numbers.specs.Numbers.{typeNumbers, missesNumbers, nodeNumbers, typePart, nodePart, planNumbers}
 use Rattle.numbers.proofs.Stored.{sets-append, sets-all}
 
--- a type is two stores
-pub type-laid : (l : List ℕ) (k : ℕ) (a : SlotType) → set (set l k (a .c)) (k + 1) (a .t) ≡ sets l k (typeNumbers a)
-unfolding typeNumbers
-type-laid l k a = rw (add-one k)
+-- a pair is two stores
+pub pair-laid : (l : List ℕ) (k x y : ℕ) → set (set l k x) (k + 1) y ≡ sets l k (x ∷ y ∷ [])
+pair-laid l k x y = rw (add-one k)
 
--- a node is two stores and two types
+-- a node is two stores and three pairs
 pub node-laid : (l : List ℕ) (k : ℕ) (n : Node) (x y : ℕ) → x ≡ kindByte (n .kind) → y ≡ parentByte (n .parent) →
-    (m : List ℕ) → m ≡ sets (set (set l k x) (k + 1) y) (k + 2) (typeNumbers (n .wanted)) →
-    (r : List ℕ) → r ≡ sets m (k + 4) (typeNumbers (n .served)) → r ≡ sets l k (nodeNumbers n)
-unfolding typeNumbers nodeNumbers
-node-laid l k n x y kind parent m wanted r served =
+    (a : List ℕ) → a ≡ sets (set (set l k x) (k + 1) y) (k + 2) (n .wanted .c ∷ n .wanted .t ∷ []) →
+    (b : List ℕ) → b ≡ sets a (k + 4) (n .misses .d ∷ n .misses .w ∷ []) →
+    (r : List ℕ) → r ≡ sets b (k + 6) (n .served .c ∷ n .served .t ∷ []) → r ≡ sets l k (nodeNumbers n)
+unfolding typeNumbers missesNumbers nodeNumbers
+node-laid l k n x y kind parent a wanted b misses r served =
     let two : k + 2 ≡ suc (suc k) = omega arith in
     let four : k + 4 ≡ suc (suc (suc (suc k))) = omega arith in
-    rw (served, wanted, kind, parent, add-one k, two, four)
+    let six : k + 6 ≡ suc (suc (suc (suc (suc (suc k))))) = omega arith in
+    rw (served, misses, wanted, kind, parent, add-one k, two, four, six)
 
 -- which leaves the list as long as it was
-pub node-length : (l : List ℕ) (k x y : ℕ) (vs m : List ℕ) → m ≡ sets (set (set l k x) (k + 1) y) (k + 2) vs →
-    (j : ℕ) (ws r : List ℕ) → r ≡ sets m j ws → length r ≡ length l
-node-length l k x y vs m e j ws r h =
-    ap length h ∙ length-sets m j ws ∙ ap length e ∙ length-sets (set (set l k x) (k + 1) y) (k + 2) vs ∙ simp length-set
+pub node-length : (l : List ℕ) (k x y : ℕ) (us a : List ℕ) → a ≡ sets (set (set l k x) (k + 1) y) (k + 2) us →
+    (i : ℕ) (vs b : List ℕ) → b ≡ sets a i vs → (j : ℕ) (ws r : List ℕ) → r ≡ sets b j ws → length r ≡ length l
+node-length l k x y us a e i vs b g j ws r h =
+    ap length h
+    ∙ length-sets b j ws
+    ∙ ap length g
+    ∙ length-sets a i vs
+    ∙ ap length e
+    ∙ length-sets (set (set l k x) (k + 1) y) (k + 2) us
+    ∙ simp length-set
 
 -- an aligned leaf is 0
 pub aligned-number : (k : NodeKind) → k ≡ AlignedLeaf → 0 ≡ kindByte k
@@ -85,28 +92,28 @@ part-none f l k = refl
 module _ (l : List ℕ) (k i : ℕ) (out next : List ℕ) where
   -- one type more
   pub types-more : (types : List SlotType) → out ≡ sets l k (lays (typePart types) i) →
-      next ≡ sets out (k + 2 * i) (typeNumbers (getD types i zeroType)) → next ≡ sets l k (lays (typePart types) (i + 1))
+      let a = getD types i zeroType in next ≡ sets out (k + 2 * i) (a .c ∷ a .t ∷ []) → next ≡ sets l k (lays (typePart types) (i + 1))
   unfolding typePart typeNumbers
   types-more types e h = part-more (typePart types) 2 (λ j. refl) l k i out e next h
 
   -- one node more
   pub nodes-more : (nodes : List Node) → out ≡ sets l k (lays (nodePart nodes) i) →
-      next ≡ sets out (k + 6 * i) (nodeNumbers (getD nodes i zeroNode)) → next ≡ sets l k (lays (nodePart nodes) (i + 1))
-  unfolding nodePart nodeNumbers typeNumbers
-  nodes-more nodes e h = part-more (nodePart nodes) 6 (λ j. refl) l k i out e next h
+      next ≡ sets out (k + 8 * i) (nodeNumbers (getD nodes i zeroNode)) → next ≡ sets l k (lays (nodePart nodes) (i + 1))
+  unfolding nodePart nodeNumbers typeNumbers missesNumbers
+  nodes-more nodes e h = part-more (nodePart nodes) 8 (λ j. refl) l k i out e next h
 
 -- types take two numbers each
 pub types-length : (types : List SlotType) (n : ℕ) → length (lays (typePart types) n) ≡ 2 * n
 unfolding typePart typeNumbers
 types-length types n = lays-length (typePart types) 2 (λ j. refl) n
 
--- and nodes six
-pub nodes-length : (nodes : List Node) (n : ℕ) → length (lays (nodePart nodes) n) ≡ 6 * n
-unfolding nodePart nodeNumbers typeNumbers
-nodes-length nodes n = lays-length (nodePart nodes) 6 (λ j. refl) n
+-- and nodes eight
+pub nodes-length : (nodes : List Node) (n : ℕ) → length (lays (nodePart nodes) n) ≡ 8 * n
+unfolding nodePart nodeNumbers typeNumbers missesNumbers
+nodes-length nodes n = lays-length (nodePart nodes) 8 (λ j. refl) n
 
--- a plan has 404 numbers
-pub plan-length : (plan : Plan) → length (planNumbers plan) ≡ 404
+-- a plan has 533 numbers
+pub plan-length : (plan : Plan) → length (planNumbers plan) ≡ 533
 unfolding planNumbers
 plan-length plan =
     let types = lays (typePart (plan .supplies)) 8 in
@@ -114,38 +121,43 @@ plan-length plan =
     omega (arith, length-append types ((plan .size ∷ []) ++ nodes), types-length (plan .supplies) 8, nodes-length (plan .nodes) 64)
 
 -- which are zeros for the plan value of zeros
-pub zeros-laid : planNumbers zeroPlan ≡ replicate 404 0
-unfolding planNumbers zeroPlan lays typePart nodePart nodeNumbers typeNumbers kindByte parentByte
+pub zeros-laid : planNumbers zeroPlan ≡ replicate 533 0
+unfolding planNumbers zeroPlan lays typePart nodePart nodeNumbers typeNumbers missesNumbers kindByte parentByte
 zeros-laid = refl
 
--- three numbers, the supplies, one number and the nodes take up all 404
-pub plan-laid : (plan : Plan) (l : List ℕ) → length l ≡ 404 →
-    (m : List ℕ) → m ≡ sets (set (set (set l 0 (plan .tick .p)) 1 (plan .tick .q)) 2 (plan .cores)) 3 (lays (typePart (plan .supplies)) 8) →
-    (r : List ℕ) → r ≡ sets (set m 19 (plan .size)) 20 (lays (nodePart (plan .nodes)) 64) → r ≡ planNumbers plan
+-- four numbers, the supplies, one number and the nodes take up all 533
+pub plan-laid : (plan : Plan) (l : List ℕ) → length l ≡ 533 →
+    (m : List ℕ) →
+    m ≡ sets (set (set (set (set l 0 (plan .edition)) 1 (plan .tick .p)) 2 (plan .tick .q)) 3 (plan .cores)) 4 (lays (typePart (plan .supplies)) 8) →
+    (r : List ℕ) → r ≡ sets (set m 20 (plan .size)) 21 (lays (nodePart (plan .nodes)) 64) → r ≡ planNumbers plan
 unfolding planNumbers
 plan-laid plan l whole m supplies r nodes =
-    let head : List ℕ = plan .tick .p ∷ plan .tick .q ∷ plan .cores ∷ [] in
+    let head : List ℕ = plan .edition ∷ plan .tick .p ∷ plan .tick .q ∷ plan .cores ∷ [] in
     let types : List ℕ = lays (typePart (plan .supplies)) 8 in
     let tail : List ℕ = lays (nodePart (plan .nodes)) 64 in
     nodes
-    ∙ ap (λ x. sets (set x 19 (plan .size)) 20 tail) supplies
+    ∙ ap (λ x. sets (set x 20 (plan .size)) 21 tail) supplies
     ∙ sym (sets-append l 0 head (types ++ ((plan .size ∷ []) ++ tail))
-    ∙ sets-append (sets l 0 head) 3 types ((plan .size ∷ []) ++ tail)
-    ∙ ap (λ n. sets (sets (sets l 0 head) 3 types) (3 + n) ((plan .size ∷ []) ++ tail)) (types-length (plan .supplies) 8))
+    ∙ sets-append (sets l 0 head) 4 types ((plan .size ∷ []) ++ tail)
+    ∙ ap (λ n. sets (sets (sets l 0 head) 4 types) (4 + n) ((plan .size ∷ []) ++ tail)) (types-length (plan .supplies) 8))
     ∙ sets-all l (planNumbers plan) (plan-length plan ∙ sym whole)
 
-module _ (l : List ℕ) (a b c : ℕ) (vs m : List ℕ) (whole : length l ≡ 404) (e : m ≡ sets (set (set (set l 0 a) 1 b) 2 c) 3 vs) where
-  -- there are 404 numbers yet after the supplies
-  pub plan-begun : length m ≡ 404
-  plan-begun = ap length e ∙ length-sets (set (set (set l 0 a) 1 b) 2 c) 3 vs ∙ simp length-set whole
+module _ (l : List ℕ) (a b c d : ℕ) (vs m : List ℕ) (whole : length l ≡ 533) (e : m ≡ sets (set (set (set (set l 0 a) 1 b) 2 c) 3 d) 4 vs) where
+  -- there are 533 numbers yet after the supplies:
+  pub plan-begun : length m ≡ 533
+  plan-begun = ap length e ∙ length-sets (set (set (set (set l 0 a) 1 b) 2 c) 3 d) 4 vs ∙ simp length-set whole
 
-  -- and after the nodes' count
-  pub plan-room : (v : ℕ) → 404 ≤ length (set m 19 v)
-  plan-room v = omega (arith, length-set m 19 v, plan-begun)
+  -- room for the nodes' count,
+  pub count-room : 20 < length m
+  count-room = omega (arith, plan-begun)
 
-  -- and after the nodes as many as at first
-  pub plan-same : (v : ℕ) (ws r : List ℕ) → r ≡ sets (set m 19 v) 20 ws → length r ≡ length l
-  plan-same v ws r h = ap length h ∙ length-sets (set m 19 v) 20 ws ∙ length-set m 19 v ∙ plan-begun ∙ sym whole
+  -- and for the nodes after it;
+  pub plan-room : (v : ℕ) → 533 ≤ length (set m 20 v)
+  plan-room v = omega (arith, length-set m 20 v, plan-begun)
+
+  -- and after the nodes there are as many as at first
+  pub plan-same : (v : ℕ) (ws r : List ℕ) → r ≡ sets (set m 20 v) 21 ws → length r ≡ length l
+  plan-same v ws r h = ap length h ∙ length-sets (set m 20 v) 21 ws ∙ length-set m 20 v ∙ plan-begun ∙ sym whole
 
 -- what is stored at some places keeps its length
 pub stored-length : (l out : List ℕ) (i v : ℕ) → length out ≡ length (set l i v) → length out ≡ length l

@@ -1,4 +1,4 @@
-// A plan value as 404 numbers and a state as 65, as include/mettulos.h says: taken from a slice of numbers, and laid down in one. A slice may hold
+// A plan value as 533 numbers and a state as 65, as include/mettulos.h says: taken from a slice of numbers, and laid down in one. A slice may hold
 // anything: numbers that are no value's give a value of zeros, and what has no place is not laid down. specs/Numbers.antt says how each value lies.
 ghost use mathlib.Core.Path.{_≡_};
 ghost use Rattle.dispatch.specs.Run.{standing};
@@ -27,11 +27,11 @@ pub fn plan_of(xs: &[u32]) -> Plan
     values::value_of(xs)
 }
 
-// Lays a plan value down, where `out` has 404 numbers and 32 bits hold its counts. Says whether it did.
+// Lays a plan value down, where `out` has 533 numbers and 32 bits hold its counts. Says whether it did.
 pub fn put_plan(plan: Plan, out: &mut [u32]) -> bool
     ensures { λ r. ⌜ (r, now (out .exit)) ≡ planLaid plan (now (out .entry)) ⌝ }
 {
-    if out.len() != 404 {
+    if out.len() != 533 {
         return false;
     }
     if 4294967295 < plan.cores {

@@ -2,9 +2,12 @@
 use borrow.Author.Needs.{needs}
 use native.Mathlib.Omega.{arith}
 use lib.ListN.{length-set}
-use Rattle.numbers.proofs.Laid.{plan-laid, plan-room, plan-same}
+use Rattle.numbers.proofs.Laid.{plan-laid, count-room, plan-room, plan-same}
 use Rattle.numbers.proofs.laying.lay.Statement.{statement}
 use Rattle.numbers.proofs.laying.lay.Tie as tie
+
+cast-out : tie.Need-cast-out
+cast-out c = search needs
 
 slice-write-out : tie.Need-slice-write-out
 slice-write-out c = search needs
@@ -12,20 +15,23 @@ slice-write-out c = search needs
 slice-write-out-2 : tie.Need-slice-write-out-2
 slice-write-out-2 c = search needs
 
-cast-out : tie.Need-cast-out
-cast-out c = search needs
-
 slice-write-out-3 : tie.Need-slice-write-out-3
 slice-write-out-3 c = search needs
-
-put-supplies-requires : tie.Need-put-supplies-requires
-put-supplies-requires c κs = simp length-set (omega arith)
 
 cast-out-2 : tie.Need-cast-out-2
 cast-out-2 c = search needs
 
 slice-write-out-4 : tie.Need-slice-write-out-4
-slice-write-out-4 c = omega (arith, simp length-set at (c .before .before .before .put-supplies .kept .1 .0))
+slice-write-out-4 c = search needs
+
+put-supplies-requires : tie.Need-put-supplies-requires
+put-supplies-requires c κs = simp length-set (omega arith)
+
+cast-out-3 : tie.Need-cast-out-3
+cast-out-3 c = search needs
+
+slice-write-out-5 : tie.Need-slice-write-out-5
+slice-write-out-5 c = search count-room
 
 put-nodes-requires : tie.Need-put-nodes-requires
 put-nodes-requires c κs = search plan-room
@@ -40,13 +46,15 @@ pub lay-spec : {M : Type 1} → statement M
 lay-spec =
     tie.close
     (tie.spec
+    cast-out
     slice-write-out
     slice-write-out-2
-    cast-out
     slice-write-out-3
-    put-supplies-requires
     cast-out-2
     slice-write-out-4
+    put-supplies-requires
+    cast-out-3
+    slice-write-out-5
     put-nodes-requires
     same-length
     returns)

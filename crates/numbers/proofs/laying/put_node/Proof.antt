@@ -1,4 +1,4 @@
--- `numbers::laying::put_node` meets its contract: a node is two stores and two types. Assumes nothing.
+-- `numbers::laying::put_node` meets its contract: a node is two stores and three pairs. Assumes nothing.
 use borrow.Author.Needs.{needs}
 use native.Mathlib.Omega.{arith}
 use lib.ListN.{length-set}
@@ -27,17 +27,25 @@ mul-out-2 c = search needs
 slice-write-out-2 : tie.Need-slice-write-out-2
 slice-write-out-2 c = simp length-set (omega arith)
 
-add-put-type : tie.Need-add-put-type
-add-put-type c = search needs
+add-put-pair : tie.Need-add-put-pair
+add-put-pair c = search needs
 
-put-type-requires : tie.Need-put-type-requires
-put-type-requires c κs = simp length-set (omega arith)
+put-pair-requires : tie.Need-put-pair-requires
+put-pair-requires c κs = simp length-set (omega arith)
 
-add-put-type-2 : tie.Need-add-put-type-2
-add-put-type-2 c = search needs
+add-put-pair-2 : tie.Need-add-put-pair-2
+add-put-pair-2 c = search needs
 
-put-type-requires-2 : tie.Need-put-type-requires-2
-put-type-requires-2 c κs = omega (arith, simp length-set at (c .before .before .before .put-type .kept .1 .1 .0))
+put-pair-requires-2 : tie.Need-put-pair-requires-2
+put-pair-requires-2 c κs = omega (arith, simp length-set at (c .before .before .before .put-pair .kept .1 .1 .1 .0))
+
+add-put-pair-3 : tie.Need-add-put-pair-3
+add-put-pair-3 c = search needs
+
+put-pair-requires-3 : tie.Need-put-pair-requires-3
+put-pair-requires-3 c κs =
+    let first = simp length-set at (c .before .before .before .before .before .before .before .put-pair .kept .1 .1 .1 .0) in
+    omega (arith, first, c .before .before .before .put-pair2 .kept .1 .1 .1 .0)
 
 same-length : tie.Need-same-length
 same-length c = search node-length
@@ -56,9 +64,11 @@ put-node-spec =
     add-out
     mul-out-2
     slice-write-out-2
-    add-put-type
-    put-type-requires
-    add-put-type-2
-    put-type-requires-2
+    add-put-pair
+    put-pair-requires
+    add-put-pair-2
+    put-pair-requires-2
+    add-put-pair-3
+    put-pair-requires-3
     same-length
     returns)

@@ -11,7 +11,7 @@ use Rattle.numbers.proofs.laying.put_nodes.Statement.{statement}
 use Rattle.numbers.proofs.laying.put_nodes.Tie as tie
 
 abbrev Inv-loop : tie.InvT-loop
-Inv-loop out₀ nodes i₀ out i = (i ≤ 64) × (length out ≡ length out₀) × (out ≡ sets out₀ 20 (lays (nodePart nodes) i))
+Inv-loop out₀ nodes i₀ out i = (i ≤ 64) × (length out ≡ length out₀) × (out ≡ sets out₀ 21 (lays (nodePart nodes) i))
 
 abbrev μ-loop : tie.MeasureT-loop
 μ-loop out₀ nodes i₀ out i = 64 - i

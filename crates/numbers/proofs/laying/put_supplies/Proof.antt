@@ -11,7 +11,7 @@ use Rattle.numbers.proofs.laying.put_supplies.Statement.{statement}
 use Rattle.numbers.proofs.laying.put_supplies.Tie as tie
 
 abbrev Inv-loop : tie.InvT-loop
-Inv-loop out₀ supplies i₀ out i = (i ≤ 8) × (length out ≡ length out₀) × (out ≡ sets out₀ 3 (lays (typePart supplies) i))
+Inv-loop out₀ supplies i₀ out i = (i ≤ 8) × (length out ≡ length out₀) × (out ≡ sets out₀ 4 (lays (typePart supplies) i))
 
 abbrev μ-loop : tie.MeasureT-loop
 μ-loop out₀ supplies i₀ out i = 8 - i
@@ -19,20 +19,20 @@ abbrev μ-loop : tie.MeasureT-loop
 loop-holds : tie.Need-loop-holds Inv-loop μ-loop
 loop-holds c = search (needs, part-none)
 
-mul-put-type : tie.Need-mul-put-type Inv-loop μ-loop
-mul-put-type c = search needs
+mul-a : tie.Need-mul-a Inv-loop μ-loop
+mul-a c = search needs
 
-array-copy-out-put-type : tie.Need-array-copy-out-put-type Inv-loop μ-loop
-array-copy-out-put-type c = search needs
+array-copy-out-a : tie.Need-array-copy-out-a Inv-loop μ-loop
+array-copy-out-a c = search needs
 
-mul-put-type-2 : tie.Need-mul-put-type-2 Inv-loop μ-loop
-mul-put-type-2 c = search needs
+mul-put-pair : tie.Need-mul-put-pair Inv-loop μ-loop
+mul-put-pair c = search needs
 
-add-put-type : tie.Need-add-put-type Inv-loop μ-loop
-add-put-type c = search needs
+add-put-pair : tie.Need-add-put-pair Inv-loop μ-loop
+add-put-pair c = search needs
 
-put-type-requires : tie.Need-put-type-requires Inv-loop μ-loop
-put-type-requires c κs = search needs
+put-pair-requires : tie.Need-put-pair-requires Inv-loop μ-loop
+put-pair-requires c κs = search needs
 
 add-i : tie.Need-add-i Inv-loop μ-loop
 add-i c = search needs
@@ -56,11 +56,11 @@ put-supplies-spec =
     Inv-loop
     μ-loop
     loop-holds
-    mul-put-type
-    array-copy-out-put-type
-    mul-put-type-2
-    add-put-type
-    put-type-requires
+    mul-a
+    array-copy-out-a
+    mul-put-pair
+    add-put-pair
+    put-pair-requires
     add-i
     loop-less
     loop-again

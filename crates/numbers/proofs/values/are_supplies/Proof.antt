@@ -19,14 +19,14 @@ abbrev μ-loop : tie.MeasureT-loop
 loop-holds : tie.Need-loop-holds Inv-loop μ-loop
 loop-holds c = search (needs, all-none)
 
-mul-is-type : tie.Need-mul-is-type Inv-loop μ-loop
-mul-is-type c = search needs
+mul-is-pair : tie.Need-mul-is-pair Inv-loop μ-loop
+mul-is-pair c = search needs
 
-add-is-type : tie.Need-add-is-type Inv-loop μ-loop
-add-is-type c = search needs
+add-is-pair : tie.Need-add-is-pair Inv-loop μ-loop
+add-is-pair c = search needs
 
-is-type-requires : tie.Need-is-type-requires Inv-loop μ-loop
-is-type-requires c κs = search needs
+is-pair-requires : tie.Need-is-pair-requires Inv-loop μ-loop
+is-pair-requires c κs = search needs
 
 returns : tie.Need-returns Inv-loop μ-loop
 unfolding isSupplyAt supplyPlace
@@ -52,9 +52,9 @@ are-supplies-spec =
     Inv-loop
     μ-loop
     loop-holds
-    mul-is-type
-    add-is-type
-    is-type-requires
+    mul-is-pair
+    add-is-pair
+    is-pair-requires
     returns
     add-i
     loop-less

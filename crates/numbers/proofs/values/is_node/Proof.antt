@@ -22,23 +22,32 @@ shared-slice-read-both-2 c = search needs
 both-requires : tie.Need-both-requires
 both-requires c κs = search needs
 
-add-is-type : tie.Need-add-is-type
-add-is-type c = search needs
+add-is-pair : tie.Need-add-is-pair
+add-is-pair c = search needs
 
-is-type-requires : tie.Need-is-type-requires
-is-type-requires c κs = search needs
+is-pair-requires : tie.Need-is-pair-requires
+is-pair-requires c κs = search needs
 
-add-is-type-2 : tie.Need-add-is-type-2
-add-is-type-2 c = search needs
+add-is-pair-2 : tie.Need-add-is-pair-2
+add-is-pair-2 c = search needs
 
-is-type-requires-2 : tie.Need-is-type-requires-2
-is-type-requires-2 c κs = search needs
+is-pair-requires-2 : tie.Need-is-pair-requires-2
+is-pair-requires-2 c κs = search needs
+
+add-is-pair-3 : tie.Need-add-is-pair-3
+add-is-pair-3 c = search needs
+
+is-pair-requires-3 : tie.Need-is-pair-requires-3
+is-pair-requires-3 c κs = search needs
 
 both-requires-2 : tie.Need-both-requires-2
 both-requires-2 c κs = search needs
 
 both-requires-3 : tie.Need-both-requires-3
 both-requires-3 c κs = search needs
+
+both-requires-4 : tie.Need-both-requires-4
+both-requires-4 c κs = search needs
 
 returns : tie.Need-returns
 returns c = search node-tests
@@ -53,10 +62,13 @@ is-node-spec =
     mul-both-2
     shared-slice-read-both-2
     both-requires
-    add-is-type
-    is-type-requires
-    add-is-type-2
-    is-type-requires-2
+    add-is-pair
+    is-pair-requires
+    add-is-pair-2
+    is-pair-requires-2
+    add-is-pair-3
+    is-pair-requires-3
     both-requires-2
     both-requires-3
+    both-requires-4
     returns)

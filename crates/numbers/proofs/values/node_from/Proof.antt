@@ -1,6 +1,6 @@
 -- `numbers::values::node_from` meets its contract: numbers within the fields of a node fit them. Assumes nothing.
 use borrow.Author.Needs.{needs}
-use Rattle.numbers.proofs.Fields.{node-said, node-parent-small, node-wanted-fits, node-served-fits}
+use Rattle.numbers.proofs.Fields.{node-said, node-parent-small, node-wanted-fits, node-misses-fits, node-served-fits}
 use Rattle.numbers.proofs.values.node_from.Statement.{statement}
 use Rattle.numbers.proofs.values.node_from.Tie as tie
 
@@ -31,6 +31,12 @@ add-type-from c = search needs
 type-from-requires : tie.Need-type-from-requires
 type-from-requires c κs = search (needs, node-wanted-fits)
 
+add-misses-from : tie.Need-add-misses-from
+add-misses-from c = search needs
+
+misses-from-requires : tie.Need-misses-from-requires
+misses-from-requires c κs = search (needs, node-misses-fits)
+
 add-type-from-2 : tie.Need-add-type-from-2
 add-type-from-2 c = search needs
 
@@ -53,6 +59,8 @@ node-from-spec =
     parent-of-requires
     add-type-from
     type-from-requires
+    add-misses-from
+    misses-from-requires
     add-type-from-2
     type-from-requires-2
     returns)

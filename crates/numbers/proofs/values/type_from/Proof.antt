@@ -2,7 +2,7 @@
 use borrow.Author.Needs.{needs}
 use mathlib.Core.Path.{refl}
 use Rattle.numbers.specs.Numbers.{typeFrom}
-use Rattle.numbers.proofs.Fields.{type-count-fits, type-period-fits}
+use Rattle.numbers.proofs.Fields.{first-fits, second-fits}
 use Rattle.numbers.proofs.values.type_from.Statement.{statement}
 use Rattle.numbers.proofs.values.type_from.Tie as tie
 
@@ -13,7 +13,7 @@ shared-slice-read-t5 : tie.Need-shared-slice-read-t5
 shared-slice-read-t5 c = search needs
 
 cast-t6 : tie.Need-cast-t6
-cast-t6 c = search type-count-fits
+cast-t6 c = search first-fits
 
 add-t7 : tie.Need-add-t7
 add-t7 c = search needs
@@ -25,7 +25,7 @@ shared-slice-read-t10 : tie.Need-shared-slice-read-t10
 shared-slice-read-t10 c = search needs
 
 cast-t11 : tie.Need-cast-t11
-cast-t11 c = search type-period-fits
+cast-t11 c = search second-fits
 
 returns : tie.Need-returns
 unfolding typeFrom

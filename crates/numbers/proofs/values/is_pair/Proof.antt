@@ -1,8 +1,8 @@
--- `numbers::values::is_type` meets its contract. Assumes nothing.
+-- `numbers::values::is_pair` meets its contract. Assumes nothing.
 use borrow.Author.Needs.{needs}
-use Rattle.numbers.specs.Numbers.{isType}
-use Rattle.numbers.proofs.values.is_type.Statement.{statement}
-use Rattle.numbers.proofs.values.is_type.Tie as tie
+use Rattle.numbers.specs.Numbers.{isPair}
+use Rattle.numbers.proofs.values.is_pair.Statement.{statement}
+use Rattle.numbers.proofs.values.is_pair.Tie as tie
 
 mul-both : tie.Need-mul-both
 mul-both c = search needs
@@ -23,11 +23,11 @@ both-requires : tie.Need-both-requires
 both-requires c κs = search needs
 
 returns : tie.Need-returns
-unfolding isType
+unfolding isPair
 returns c = search needs
 
-pub is-type-spec : {M : Type 1} → statement M
-is-type-spec =
+pub is-pair-spec : {M : Type 1} → statement M
+is-pair-spec =
     tie.close
     (tie.spec
     mul-both

@@ -8,7 +8,7 @@ use lib.Dec.{eqb}
 use lib.ListN.{length, replicate}
 use Rattle.meaning.specs.Allocation.{ones}
 use Rattle.meaning.specs.Types.{_of_}
-use Rattle.plans.specs.Plan.{zeroType, zeroNode, servedOf}
+use Rattle.plans.specs.Plan.{zeroType, zeroNode, noMisses, servedOf}
 use Rattle.plans.specs.declared.Node.{Node}
 use Rattle.plans.specs.declared.NodeKind.the-variants.{AlignedLeaf, SlidingLeaf, Host}
 use Rattle.plans.specs.declared.Parent.the-variants.{Supply, Node as Under}
@@ -21,10 +21,12 @@ use Rattle.partitions.specs.Case.{
   OverFirstPart,
   FromFresh,
   IsPartition,
+  IsHard,
   ItsWindow,
   InsideRun,
   DeclinesNowhere,
   asked,
+  period,
   receives,
   received,
   charges,
@@ -45,9 +47,10 @@ pub record Basis (c : Case) (asks gets : ℕ) : Type 0 where
 pub record Meets (c : Case) (asks gets : ℕ) : Type 0 where
   pub basis : Basis c asks gets
   pub supplied : KeepsTypes c
+  pub hard : IsHard c
   pub window : ItsWindow c
-  pub inside : InsideRun c
-  pub nowhere : DeclinesNowhere c
+  pub inside : InsideRun c (period c)
+  pub nowhere : DeclinesNowhere c (period c)
 
 -- every core is supplied in every slot
 abbrev pub always : ℕ → ℕ
@@ -75,14 +78,15 @@ busBytes =
 abbrev pub bus : Plan
 bus =
     record {
+      edition = 1;
       tick = record { p = 1_000; q = 3 };
       cores = 1;
       supplies = (1 of 1) ∷ replicate 7 zeroType;
       size = 3;
       nodes =
-          record { kind = Host; parent = Supply 0; wanted = 2 of 4; served = 2 of 4 } ∷
-          record { kind = AlignedLeaf; parent = Under 0; wanted = 1 of 9; served = 1 of 4 } ∷
-          record { kind = SlidingLeaf; parent = Supply 0; wanted = 4 of 10; served = 2 of 4 } ∷
+          record { kind = Host; parent = Supply 0; wanted = 2 of 4; misses = noMisses; served = 2 of 4 } ∷
+          record { kind = AlignedLeaf; parent = Under 0; wanted = 1 of 9; misses = noMisses; served = 1 of 4 } ∷
+          record { kind = SlidingLeaf; parent = Supply 0; wanted = 4 of 10; misses = noMisses; served = 2 of 4 } ∷
           replicate 61 zeroNode;
     }
 
@@ -125,13 +129,14 @@ duoBytes =
 abbrev pub duo : Plan
 duo =
     record {
+      edition = 1;
       tick = record { p = 1_000; q = 3 };
       cores = 2;
       supplies = (1 of 1) ∷ (1 of 2) ∷ replicate 6 zeroType;
       size = 2;
       nodes =
-          record { kind = AlignedLeaf; parent = Supply 0; wanted = 1 of 2; served = 1 of 2 } ∷
-          record { kind = AlignedLeaf; parent = Supply 1; wanted = 1 of 2; served = 1 of 2 } ∷
+          record { kind = AlignedLeaf; parent = Supply 0; wanted = 1 of 2; misses = noMisses; served = 1 of 2 } ∷
+          record { kind = AlignedLeaf; parent = Supply 1; wanted = 1 of 2; misses = noMisses; served = 1 of 2 } ∷
           replicate 62 zeroNode;
     }
 
@@ -174,7 +179,8 @@ supplyShort =
 
 abbrev pub ShortSupply : Type 0
 ShortSupply =
-    Basis supplyShort 4 3 × (KeepsTypes supplyShort → ⊥) × ItsWindow supplyShort × InsideRun supplyShort × DeclinesNowhere supplyShort
+    Basis supplyShort 4 3 × (KeepsTypes supplyShort → ⊥) × IsHard supplyShort × ItsWindow supplyShort ×
+    InsideRun supplyShort (period supplyShort) × DeclinesNowhere supplyShort (period supplyShort)
 
 -- `door` declines in slot 2, and its served period has only slot 3 left for it.
 abbrev pub doorDeclines : Case
@@ -183,14 +189,17 @@ doorDeclines =
 
 abbrev pub DeclinedOnce : Type 0
 DeclinedOnce =
-    Basis doorDeclines 4 3 × KeepsTypes doorDeclines × ItsWindow doorDeclines × InsideRun doorDeclines × (DeclinesNowhere doorDeclines → ⊥)
+    Basis doorDeclines 4 3 × KeepsTypes doorDeclines × IsHard doorDeclines × ItsWindow doorDeclines ×
+    InsideRun doorDeclines (period doorDeclines) × (DeclinesNowhere doorDeclines (period doorDeclines) → ⊥)
 
 -- The run ends after seven slots, and the rest of the buffer is as it was: 9 is neither a node nor 254 or 255.
 abbrev pub runEnds : Case
 runEnds = onBus Off always (replicate 7 255) (replicate 7 0) (1 ∷ 254 ∷ 2 ∷ 2 ∷ 1 ∷ 254 ∷ 2 ∷ 9 ∷ 9 ∷ 9 ∷ []) 2
 
 abbrev pub OutsideRun : Type 0
-OutsideRun = Basis runEnds 4 3 × KeepsTypes runEnds × ItsWindow runEnds × (InsideRun runEnds → ⊥) × DeclinesNowhere runEnds
+OutsideRun =
+    Basis runEnds 4 3 × KeepsTypes runEnds × IsHard runEnds × ItsWindow runEnds ×
+    (InsideRun runEnds (period runEnds) → ⊥) × DeclinesNowhere runEnds (period runEnds)
 
 -- A plan with two aligned leaves, `a` (node 0) and `b` (node 1), each with every other slot of one core.
 abbrev pub pairBytes : List ℕ
@@ -206,11 +215,12 @@ pairBytes =
     []
 
 abbrev pub half : Node
-half = record { kind = AlignedLeaf; parent = Supply 0; wanted = 1 of 2; served = 1 of 2 }
+half = record { kind = AlignedLeaf; parent = Supply 0; wanted = 1 of 2; misses = noMisses; served = 1 of 2 }
 
 abbrev pub pair : Plan
 pair =
     record {
+      edition = 1;
       tick = record { p = 1_000; q = 3 };
       cores = 1;
       supplies = (1 of 1) ∷ replicate 7 zeroType;
@@ -235,4 +245,5 @@ betweenWindows =
 
 abbrev pub OffMultiple : Type 0
 OffMultiple =
-    Basis betweenWindows 1 0 × KeepsTypes betweenWindows × (ItsWindow betweenWindows → ⊥) × InsideRun betweenWindows × DeclinesNowhere betweenWindows
+    Basis betweenWindows 1 0 × KeepsTypes betweenWindows × IsHard betweenWindows × (ItsWindow betweenWindows → ⊥) ×
+    InsideRun betweenWindows (period betweenWindows) × DeclinesNowhere betweenWindows (period betweenWindows)

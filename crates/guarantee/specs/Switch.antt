@@ -6,7 +6,7 @@ use mathlib.Core.Path.{_≡_}
 use lib.ListN.{replicate}
 use Rattle.meaning.specs.Allocation.{ones}
 use Rattle.meaning.specs.Types.{_of_}
-use Rattle.plans.specs.Plan.{zeroType, zeroNode}
+use Rattle.plans.specs.Plan.{zeroType, zeroNode, noMisses}
 use Rattle.plans.specs.declared.NodeKind.the-variants.{Host}
 use Rattle.plans.specs.declared.Parent.the-variants.{Supply, Node as Under}
 use Rattle.plans.specs.declared.Plan.{Plan}
@@ -61,12 +61,13 @@ fourBytes =
 abbrev pub four : Plan
 four =
     record {
+      edition = 1;
       tick = record { p = 1_000; q = 3 };
       cores = 1;
       supplies = (1 of 1) ∷ replicate 7 zeroType;
       size = 4;
       nodes =
-          record { kind = Host; parent = Supply 0; wanted = 1 of 4; served = 1 of 4 } ∷
+          record { kind = Host; parent = Supply 0; wanted = 1 of 4; misses = noMisses; served = 1 of 4 } ∷
           leafOf (Under 0) (1 of 4) ∷
           leafOf (Supply 0) (1 of 4) ∷
           leafOf (Supply 0) (1 of 4) ∷

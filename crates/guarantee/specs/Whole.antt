@@ -7,7 +7,7 @@ use lib.ListN.{replicate}
 use Rattle.meaning.specs.Types.{_of_}
 use Rattle.meaning.specs.declared.SlotType.{SlotType}
 use Rattle.answers.specs.Answers.{at, refused, said}
-use Rattle.plans.specs.Plan.{zeroType, zeroNode}
+use Rattle.plans.specs.Plan.{zeroType, zeroNode, noMisses}
 use Rattle.plans.specs.declared.Node.{Node}
 use Rattle.plans.specs.declared.NodeKind.the-variants.{AlignedLeaf, Host}
 use Rattle.plans.specs.declared.Parent.{Parent}
@@ -31,7 +31,7 @@ coreBytes core = 0x01 ∷ 0xE8 ∷ 0x03 ∷ 0x00 ∷ 0x00 ∷ 0x03 ∷ 0x00 ∷ 
 
 -- a leaf that is served what it wants
 abbrev pub leafOf : Parent → SlotType → Node
-leafOf parent a = record { kind = AlignedLeaf; parent = parent; wanted = a; served = a }
+leafOf parent a = record { kind = AlignedLeaf; parent = parent; wanted = a; misses = noMisses; served = a }
 
 -- twelve slots of a plan
 abbrev pub twelve : List ℕ → Plan → List ℕ → ℕ → ℕ → Case
@@ -56,6 +56,7 @@ frameBytes core a b =
 abbrev pub frame : SlotType → SlotType → SlotType → Plan
 frame core a b =
     record {
+      edition = 1;
       tick = record { p = 1_000; q = 3 };
       cores = 1;
       supplies = core ∷ replicate 7 zeroType;
@@ -83,12 +84,13 @@ hostBytes core wanted served =
 abbrev pub hostPlan : Plan
 hostPlan =
     record {
+      edition = 1;
       tick = record { p = 1_000; q = 3 };
       cores = 1;
       supplies = (4 of 4) ∷ replicate 7 zeroType;
       size = 3;
       nodes =
-          record { kind = Host; parent = Supply 0; wanted = 4 of 4; served = 4 of 4 } ∷
+          record { kind = Host; parent = Supply 0; wanted = 4 of 4; misses = noMisses; served = 4 of 4 } ∷
           leafOf (Under 0) (1 of 3) ∷
           leafOf (Under 0) (4 of 6) ∷
           replicate 61 zeroNode;

@@ -1,7 +1,9 @@
 pub mod Any
 pub mod Levels
 pub mod Dispatched
+pub mod Standing
 pub mod Tree
 pub mod Window
+pub mod Stretch
 pub mod Run
 pub mod Kept

@@ -8,13 +8,10 @@ use native.Mathlib.Omega.{arith}
 use Rattle.meaning.specs.Allocation.{Allocation}
 use Rattle.meaning.specs.Types.{Honours}
 use Rattle.meaning.specs.declared.Kind.the-variants.{Aligned}
-use Rattle.plans.specs.Plan.{parentOf, kindOf, servedOf, isHost, wantedAs, ownType, supplyAt}
-use Rattle.plans.specs.declared.NodeKind.{NodeKind}
-use Rattle.plans.specs.declared.NodeKind.the-variants.{Host}
+use Rattle.plans.specs.Plan.{parentOf, servedOf, isHost, ownType, supplyAt}
 use Rattle.plans.specs.declared.Parent.{Parent}
 use Rattle.plans.specs.declared.Parent.the-variants.{Supply, Node as Under}
 use Rattle.plans.specs.declared.Plan.{Plan}
-use Rattle.plans.proofs.Entries.{host-hosting}
 use Rattle.plans.proofs.Parents.{supply-there, host-earlier, host-hosts}
 use Rattle.rules.specs.Fit.{isWhole, Child, Fit}
 use Rattle.dispatch.specs.View.{servedC, servedT}
@@ -23,12 +20,8 @@ use Rattle.unending.specs.Unending.{passedAt, charged, may}
 use Rattle.levels.specs.Level.{Offered}
 use Rattle.levels.proofs.Level.{offered-honours}
 use Rattle.partitions.specs.Case.{slotsOf, offers}
+use Rattle.partitions.proofs.Standing.{host-stands}
 use Rattle.partitions.proofs.Levels.{levelOf, Keeps, in-level, every-slot, level-kept}
-
--- a host wants its type aligned
-wanted-aligned : (k : NodeKind) → k ≡ Host → wantedAs k ≡ Aligned
-unfolding wantedAs
-wanted-aligned k e = rw e
 
 module _ (plan : Plan) (fit : Fit plan) (settings : ℕ → Setting) (supply declines : ℕ → ℕ) (keeps : Keeps plan settings supply declines) (supplied : (s : ℕ) → s < plan .cores → Honours Aligned (supplyAt plan s) (slotsOf supply s)) where
   -- where node i's parent honours its own type, an allocation that has every slot offered to i honours i's served type
@@ -69,10 +62,8 @@ module _ (plan : Plan) (fit : Fit plan) (settings : ℕ → Setting) (supply dec
       go (Under h) e above =
           let earlier : h < i = host-earlier plan (fit .sound) i l h e in
           let there : h < plan .size = omega arith in
-          let hosts = host-hosts plan (fit .sound) i l h e in
-          rw (wanted-aligned (kindOf plan h) (host-hosting (kindOf plan h) hosts)) at
-          (fit .rule11 h there (offers plan settings supply declines (Under h))
-          (below h there (above h (omega arith) there) (offers plan settings supply declines (Under h)) (host-offers h there)))
+          host-stands plan fit h there (host-hosts plan (fit .sound) i l h e) (offers plan settings supply declines (Under h))
+          (below h there (above h (omega arith) there) (offers plan settings supply declines (Under h)) (host-offers h there))
 
   -- an allocation that has every slot offered to a node honours the node's served type, aligned
   pub offered-served : (i : ℕ) → i < plan .size →

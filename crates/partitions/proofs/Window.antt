@@ -1,16 +1,16 @@
--- A leaf's window: where the leaf declines in no slot of its served periods that touch a wanted window, it is charged what it asked for there.
--- The slots outside those periods are taken as its own, so that rule 11 speaks of an allocation that honours the served type. Assumes nothing.
+-- A leaf's slots over a window or a stretch of windows: where the leaf declines in no slot of its served periods that touch it, they are those of an allocation that
+-- honours its served type, of which rule 11 speaks. The slots outside those periods are taken as its own. Assumes nothing.
 use Prim.Native.Nat.{ℕ, _+_, _-_, _/_, _≤_, _<_}
 use mathlib.Core.Bool.{Bool, true, false, not, _||_}
 use mathlib.Core.Path.{_≡_, refl, _∙_}
 use native.Mathlib.Omega.{arith}
 use lib.Dec.{eqb}
 use borrow.Author.Tests.{eqb-true, eq-eqb}
-use Rattle.meaning.specs.Allocation.{Allocation, ones}
-use Rattle.meaning.specs.Types.{Starts, Honours}
+use Rattle.meaning.specs.Allocation.{Allocation}
+use Rattle.meaning.specs.Types.{Honours}
+use Rattle.meaning.specs.declared.SlotType.{SlotType}
 use Rattle.meaning.specs.declared.Kind.the-variants.{Aligned}
-use Rattle.owed.proofs.Ones.{ones-ext}
-use Rattle.plans.specs.Plan.{parentOf, kindOf, wantedOf, servedOf, wantedAs, supplyAt}
+use Rattle.plans.specs.Plan.{parentOf, servedOf, supplyAt}
 use Rattle.plans.specs.declared.Plan.{Plan}
 use Rattle.rules.specs.Fit.{Fit}
 use Rattle.dispatch.specs.View.{viewOf, bitOf, isLeaf}
@@ -37,6 +37,12 @@ touched T w L n = any (together T w n) L
 patched : ℕ → ℕ → ℕ → Allocation → Allocation
 patched T w L α n = not (touched T w L n) || α n
 
+-- an allocation's slots in the stretch of L slots from w on are those of one that honours a type, aligned
+pub record AsHonoured (served : SlotType) (α : Allocation) (w L : ℕ) : Type 0 where
+  pub alike : Allocation
+  pub honours : Honours Aligned served alike
+  pub agrees : (n : ℕ) → w ≤ n → n < w + L → alike n ≡ α n
+
 module _ (T w L : ℕ) (α : Allocation) where
   -- inside the window nothing is changed
   patched-inside : (n : ℕ) → w ≤ n → n < w + L → patched T w L α n ≡ α n
@@ -58,28 +64,28 @@ module _ (T w L : ℕ) (α : Allocation) where
       go false e = refl
 
 module _ (plan : Plan) (fit : Fit plan) (settings : ℕ → Setting) (supply declines : ℕ → ℕ) (keeps : Keeps plan settings supply declines) (supplied : (s : ℕ) → s < plan .cores → Honours Aligned (supplyAt plan s) (slotsOf supply s)) where
-  -- under a supply that keeps its types a leaf that declines in no served period touching a wanted window is charged what it asked for there
-  pub window-served : (i : ℕ) → i < plan .size → isLeaf plan i ≡ true → (w : ℕ) → Starts (wantedAs (kindOf plan i)) (wantedOf plan i .t) w →
-      ((x y : ℕ) → w ≤ y → y < w + wantedOf plan i .t → x / servedOf plan i .t ≡ y / servedOf plan i .t → bitOf (declines x) i ≡ false) →
-      wantedOf plan i .c ≤ ones (charged plan settings supply declines i) w (wantedOf plan i .t)
-  unfolding passedAt passedOver
-  window-served i l leaf w starts accepts =
-      rw (ones-ext (patched T w L mine) mine w L (patched-inside T w L mine)) at
-      (fit .rule11 i l (patched T w L mine) (offered-served plan fit settings supply declines keeps supplied i l (patched T w L mine) covers) w starts)
-    where
-      T : ℕ
-      T = servedOf plan i .t
+  module _ (i : ℕ) (l : i < plan .size) (leaf : isLeaf plan i ≡ true) (w L : ℕ) (accepts : (x y : ℕ) → w ≤ y → y < w + L → x / servedOf plan i .t ≡ y / servedOf plan i .t → bitOf (declines x) i ≡ false) where
+    -- over a stretch of L slots from w on, in whose touching served periods the leaf does not decline, its slots are those of an allocation that honours its
+    -- served type
+    pub stretch-honoured : AsHonoured (servedOf plan i) (charged plan settings supply declines i) w L
+    unfolding passedAt passedOver
+    stretch-honoured =
+        record {
+          alike = patched T w L mine;
+          honours = offered-served plan fit settings supply declines keeps supplied i l (patched T w L mine) covers;
+          agrees = patched-inside T w L mine;
+        }
+      where
+        T : ℕ
+        T = servedOf plan i .t
 
-      L : ℕ
-      L = wantedOf plan i .t
+        mine : Allocation
+        mine = charged plan settings supply declines i
 
-      mine : Allocation
-      mine = charged plan settings supply declines i
-
-      covers : (n : ℕ) → Offered (levelOf plan settings supply declines (parentOf plan i)) i n → patched T w L mine n ≡ true
-      covers n o =
-          patched-set T w L mine n
-          (λ k m e.
-          keeps .taken (parentOf plan i) i (record { there = l; under = refl }) n o
-          (leaf-passed (viewOf plan) (startAt plan settings supply declines n) (declines n) (levelsDown (settings n)) i leaf ∙
-          accepts n (w + k) (omega arith) (omega arith) e))
+        covers : (n : ℕ) → Offered (levelOf plan settings supply declines (parentOf plan i)) i n → patched T w L mine n ≡ true
+        covers n o =
+            patched-set T w L mine n
+            (λ k m e.
+            keeps .taken (parentOf plan i) i (record { there = l; under = refl }) n o
+            (leaf-passed (viewOf plan) (startAt plan settings supply declines n) (declines n) (levelsDown (settings n)) i leaf ∙
+            accepts n (w + k) (omega arith) (omega arith) e))

@@ -18,21 +18,35 @@ use Rattle.partitions.specs.Case.{
   FromFresh,
   ByOneRun,
   IsPartition,
+  IsHard,
+  IsSoft,
   ItsWindow,
+  ItsStretch,
   InsideRun,
   DeclinesNowhere,
   asked,
+  period,
+  misses,
+  stretch,
   receives,
   received,
+  short,
   charges,
   offers,
 }
 
--- a partition receives what it asked for in each of its windows inside the run
+-- a partition that is hard receives what it asked for in each of its windows inside the run
 abbrev pub Served : Type 0
 Served =
-    (c : Case) → Fit (c .plan) → KeepsTypes c → OverFirstPart c → FromFresh c → IsPartition c → ItsWindow c → InsideRun c → DeclinesNowhere c →
-    asked c ≤ received c
+    (c : Case) → Fit (c .plan) → KeepsTypes c → OverFirstPart c → FromFresh c → IsPartition c → IsHard c → ItsWindow c → InsideRun c (period c) →
+    DeclinesNowhere c (period c) → asked c ≤ received c
+
+-- 02, request 6: "demand 3 speaks for soft leaves of whole stretches inside the run, at most D windows short in each, provided the leaf declines in no slot of its
+-- served periods that touch the stretch"
+abbrev pub SoftServed : Type 0
+SoftServed =
+    (c : Case) → Fit (c .plan) → KeepsTypes c → OverFirstPart c → FromFresh c → IsPartition c → IsSoft c → ItsStretch c → InsideRun c (stretch c) →
+    DeclinesNowhere c (stretch c) → short c ≤ misses c .d
 
 -- 02, request 2: "A parent with C = T, supply or host, gives all slots": under a supply that keeps the types, whoever declines, a whole parent has every slot
 -- for its children, and with the switch off it may give it

@@ -4,3 +4,4 @@ pub mod Cores
 pub mod Answers
 pub mod Slots
 pub mod Kept
+pub mod Alike

@@ -1,2 +1,3 @@
 pub mod Unending
 pub mod Promises
+pub mod Alike

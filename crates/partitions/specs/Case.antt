@@ -90,10 +90,11 @@ period c = wantedOf (c .plan) (c .partition) .t
 abbrev pub ItsWindow : Case → Type 0
 ItsWindow c = Starts (wantedAs (kindOf (c .plan) (c .partition))) (period c) (c .window)
 
--- a stretch of a soft partition: W windows, so many slots
+-- how many of its windows a soft partition may miss, D of each W
 abbrev pub misses : Case → Misses
 misses c = missesOf (c .plan) (c .partition)
 
+-- how many slots a stretch of it has, W windows
 abbrev pub stretch : Case → ℕ
 stretch c = misses c .w * period c
 

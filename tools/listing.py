@@ -1,6 +1,6 @@
 #!/usr/bin/env python3
-"""What `busplan` prints, from the sentences of document 01, "Decisions to check against", last part. It knows nothing of the crates: plans are read by
-tools/plans.py, slots given out by tools/slots.py and least ones found by tools/pairs.py.
+"""What `busplan` prints, from the sentences of document 01, "Decisions to check against", last part, and of document 02. It knows nothing of the crates:
+plans are read by tools/plans.py, slots given out by tools/slots.py and least ones found by tools/pairs.py.
 
   python3 tools/listing.py of FILE      the listing of a plan file
   python3 tools/listing.py examples     writes examples/NAME.plan and examples/NAME.txt for each example below
@@ -71,6 +71,13 @@ aligned door on 0 wants 1/4 gets 1/4
 aligned log on 0 wants 2/8 gets 2/8
 aligned media on 0 wants 1/16 gets 1/16
 """
+AT_ODDS = """\
+edition 2
+tick 1000 3
+supply 1/1
+aligned door on 0 wants 1/4 gets 1/4
+aligned media on 0 wants 3/6 misses 2/3 gets 2/4
+"""
 EXAMPLES = {
     "example": plans.lay(plans.EXAMPLE),
     "two_cores": plans.lay(TWO_CORES),
@@ -79,8 +86,13 @@ EXAMPLES = {
     "whole_core": plans.lay(plans.WHOLE_CORE),
     "whole_host": plans.lay(plans.WHOLE_HOST),
     "sibling_gains": plans.lay(slots.SIBLING_GAINS),
+    "soft_leaf": plans.lay(plans.SOFT),
+    "soft_cores": plans.lay(slots.SOFT_CORES),
     "nearly_whole": plans.lay(plans.WHOLE_CORE.replace("supply 4/4", "supply 3/4")),
     "overfull": plans.lay(OVERFULL),
+    "one_miss": plans.lay(plans.SOFT.replace("misses 2/3", "misses 1/3")),
+    "at_odds": plans.lay(AT_ODDS),
+    "soft_host": plans.lay(plans.SOFT.replace("wants 2/12 gets", "wants 2/12 misses 1/3 gets")),
     "cut_off": plans.lay(plans.EXAMPLE)[:44],
 }
 
@@ -98,7 +110,7 @@ def listing(data):
 
 
 def node_line(plan, i):
-    """Number, name, depth, served type, least ones in a wanted window."""
+    """Number, name, depth, served type, least ones in a wanted window, of a soft leaf too."""
     node = plan.nodes[i]
     C, T = node.served
     return f"{i} {plan.names[i]} {plans.depth(node.parent, plan.nodes)} {C}/{T} {least(node)}"

@@ -1,23 +1,24 @@
 #!/usr/bin/env python3
-"""Plan bytes from the sentences of document 01, "The plan file", "Rules beyond the bytes" and "Refusal numbers", and of document 02, request 2. It knows
-nothing of the crates.
+"""Plan bytes from the sentences of document 01, "The plan file", "Rules beyond the bytes" and "Refusal numbers", and of document 02, requests 2 and 6. It
+knows nothing of the crates.
 
   python3 tools/plans.py vectors        the files of crates/vectors_plans/stdin, one a line: a label, the bytes in hex digits (`-` for none) and,
                                         where one stands there, the number of a node whose name is asked for
-  python3 tools/plans.py expect         what the program of that crate has to print: the answer, and the names of an accepted plan
+  python3 tools/plans.py expect         what the program of that crate has to print: the answer, and the names of an accepted plan; in edition 2 with D/W
   python3 tools/plans.py read HEX..     the answer for one file
-  python3 tools/plans.py lay < TEXT     a plan as hex digits, from lines as those of EXAMPLE below
+  python3 tools/plans.py lay < TEXT     a plan as hex digits, from lines as those of EXAMPLE and SOFT below
 
-Whether a served type stands in for a wanted one (rule 11) is decided by tools/pairs.py, from the meaning of types.
+Whether a served type stands in for a wanted one (rule 11) is decided by tools/pairs.py, and of a soft leaf by tools/soft.py, from the meaning of types.
 Each vector stands beside the answer that its author had in mind, and is refused here where the reading says something else.
 """
-import collections, sys
+import collections, itertools, sys
 
 sys.dont_write_bytecode = True
-import pairs
+import pairs, soft
 
-Node = collections.namedtuple("Node", "kind parent wanted served")  # kind 0, 1 or 2; the parent's byte; two types (C, T), the served one aligned
-Plan = collections.namedtuple("Plan", "P Q supplies nodes names")
+# kind 0, 1 or 2; the parent's byte; a type (C, T); D and W, which are 0 and 1 in edition 1; a type, aligned
+Node = collections.namedtuple("Node", "kind parent wanted misses served")
+Plan = collections.namedtuple("Plan", "edition P Q supplies nodes names")
 KINDS = ("aligned", "sliding", "host")
 
 
@@ -54,14 +55,20 @@ class File:
             raise Refused(4, first)
         return C, T
 
-    def node(self, supplies, nodes):
+    def misses(self, kind):
+        first, D, W = self.at, self.field(2), self.field(2)
+        if not borne(kind, (D, W)):
+            raise Refused(19, first)
+        return D, W
+
+    def node(self, edition, supplies, nodes):
         kind = self.one_of(range(3), 1, 5)
         place, parent = self.at, self.field(1)
         if not names_a_parent(parent, supplies, nodes):
             raise Refused(6, place)
         if depth(parent, nodes) > 8:
             raise Refused(7, place)
-        return Node(kind, parent, self.slot_type(), self.slot_type())
+        return Node(kind, parent, self.slot_type(), self.misses(kind) if edition == 2 else NONE_MISSED, self.slot_type())
 
     def name(self, before):
         first = self.at
@@ -75,6 +82,15 @@ class File:
 def well_formed(slot_type):
     C, T = slot_type
     return 1 <= T <= 4096 and 0 <= C <= T
+
+
+NONE_MISSED = 0, 1  # D and W of a node of edition 1
+
+
+def borne(kind, misses):
+    """Whether 1 ≤ W ≤ 1,024 and D ≤ W, and for a host D = 0."""
+    D, W = misses
+    return 1 <= W <= 1024 and D <= W and (kind != 2 or D == 0)
 
 
 def names_a_parent(byte, supplies, nodes):
@@ -92,33 +108,45 @@ def depth(parent, nodes):
 def read(data):
     """The plan, or Refused."""
     file = File(data)
-    file.one_of([1], 1, 2)
+    edition = file.one_of([1, 2], 1, 2)
     P, Q = (file.one_of(range(1, 1_000_001), 4, 3) for _ in "PQ")
+    for _ in range(8 if edition == 2 else 0):
+        file.one_of([0], 1, 3)
     supplies, nodes, names = [], [], []
     for _ in range(file.one_of(range(1, 9), 1, 2)):
         supplies.append(file.slot_type())
     for _ in range(file.one_of(range(1, 65), 1, 2)):
-        nodes.append(file.node(supplies, nodes))
+        nodes.append(file.node(edition, supplies, nodes))
     for _ in range(file.one_of([len(nodes)], 1, 2)):
         names.append(file.name(names))
     if file.at < len(data):
         raise Refused(10, file.at)
     rules(supplies, nodes)
-    return Plan(P, Q, supplies, nodes, names)
+    return Plan(edition, P, Q, supplies, nodes, names)
 
 
 # Rules beyond the bytes
 
 
-def stands_in(served, kind, wanted):
-    least = pairs.tried if served[1] <= 6 and wanted[1] <= 30 else pairs.argued
-    return pairs.judge(("aligned", *served), (kind, *wanted), least).startswith("holds")
+def is_soft(node):
+    """Leaves with D = 0 and all hosts are treated as hard."""
+    return node.kind != 2 and node.misses[0] > 0
+
+
+def stands_in(node):
+    """Rule 11. A soft leaf is aligned."""
+    if is_soft(node):
+        return soft.allowed(node.served, node.wanted, node.misses)
+    least = pairs.tried if node.served[1] <= 6 and node.wanted[1] <= 30 else pairs.argued
+    return pairs.judge(("aligned", *node.served), ("sliding" if node.kind == 1 else "aligned", *node.wanted), least).startswith("holds")
 
 
 def rules(supplies, nodes):
-    """Rule 11 over all nodes; then, for each supply and each host in number order, rules 12, 13 and 14."""
+    """Rule 11 over all nodes, at each just after 20; then, for each supply and each host in number order, rules 12, 13 and 14."""
     for i, node in enumerate(nodes):
-        if not stands_in(node.served, "sliding" if node.kind == 1 else "aligned", node.wanted):
+        if is_soft(node) and not (node.kind == 0 and soft.divides(node.served, node.wanted)):
+            raise Refused(20, i)
+        if not stands_in(node):
             raise Refused(11, i)
     for k, supply in enumerate(supplies):
         rules_of_parent(supply, [i for i, node in enumerate(nodes) if node.parent == k], nodes)
@@ -161,6 +189,15 @@ host body on 0 wants 2/4 gets 2/4
 aligned log in body wants 1/9 gets 1/4
 sliding door on 0 wants 4/10 gets 2/4
 """
+SOFT = """\
+edition 2
+tick 1000 3
+supply 1/1
+aligned door on 0 wants 1/4 gets 1/4
+host rack on 0 wants 2/12 gets 2/12
+aligned log in rack wants 1/12 gets 1/12
+aligned media on 0 wants 3/4 misses 2/3 gets 7/12
+"""
 
 
 def type_of(text):
@@ -168,32 +205,42 @@ def type_of(text):
 
 
 def lay(text):
-    """The bytes of a plan described by lines as those of EXAMPLE, or with semicolons between them. `on` names a supply, `in` an earlier node, `at` a
-    parent byte. Nothing is tested."""
-    tick, supplies, nodes, names = (1, 1), [], [], []
+    """The bytes of a plan described by lines as those of EXAMPLE and SOFT, or with semicolons between them. `on` names a supply, `in` an earlier node,
+    `at` a parent byte. In edition 2 a node may have `misses D/W`; without it has 0/1. Nothing is tested."""
+    edition, tick, supplies, nodes, names = 1, (1, 1), [], [], []
     for word, *rest in (line.split() for line in text.replace(";", "\n").splitlines()):
-        if word == "tick":
+        if word == "edition":
+            edition = int(rest[0])
+        elif word == "tick":
             tick = [int(number) for number in rest]
         elif word == "supply":
             supplies.append(type_of(rest[0]))
         else:
-            name, how, parent, _, wanted, _, served = rest
+            name, how, parent, _, wanted, *misses, _, served = rest
+            assert not misses or edition == 2 and misses[0] == "misses", (word, *rest)
             byte = 128 + names.index(parent) if how == "in" else int(parent)
-            nodes.append(Node(KINDS.index(word), byte, type_of(wanted), type_of(served)))
+            nodes.append(Node(KINDS.index(word), byte, type_of(wanted), type_of(misses[1]) if misses else NONE_MISSED, type_of(served)))
             names.append(name)
-    return lay_parts(tick, supplies, nodes, names)
+    return lay_parts(edition, tick, supplies, nodes, names)
 
 
-def lay_parts(tick, supplies, nodes, names):
+def lay_parts(edition, tick, supplies, nodes, names):
+    """Edition 2 has a second record in the tick, of eight zero bytes, and D and W in each node."""
     return b"".join((
-        b"\1", *(number.to_bytes(4, "little") for number in tick),
+        bytes([edition]), *(number.to_bytes(4, "little") for number in tick), bytes(8 if edition == 2 else 0),
         bytes([len(supplies)]), *map(lay_type, supplies),
-        bytes([len(nodes)]), *(bytes([n.kind, n.parent]) + lay_type(n.wanted) + lay_type(n.served) for n in nodes),
+        bytes([len(nodes)]), *(lay_node(edition, node) for node in nodes),
         bytes([len(names)]), *(bytes([len(name)]) + name.encode() for name in names)))
 
 
-def lay_type(slot_type):
-    return b"".join(number.to_bytes(2, "little") for number in slot_type)
+def lay_node(edition, node):
+    misses = lay_type(node.misses) if edition == 2 else b""
+    return bytes([node.kind, node.parent]) + lay_type(node.wanted) + misses + lay_type(node.served)
+
+
+def lay_type(pair):
+    """A type, or D and W."""
+    return b"".join(number.to_bytes(2, "little") for number in pair)
 
 
 def put(data, *edits):
@@ -226,7 +273,10 @@ def answer(data):
         plan = read(data)
     except Refused as r:
         return f"refused {r.number} at {r.place}"
-    return f"accepted {len(plan.nodes)}: {' '.join(plan.names)}"
+    if plan.edition == 1:
+        return f"accepted {len(plan.nodes)}: {' '.join(plan.names)}"
+    named = " ".join(f"{name} {node.misses[0]}/{node.misses[1]}" for name, node in zip(plan.names, plan.nodes))
+    return f"accepted {len(plan.nodes)} of edition {plan.edition}: {named}"
 
 
 def asked_name(data, i):
@@ -241,7 +291,8 @@ def asked_name(data, i):
 def vectors():
     v = Vectors()
     for group in (examples, counts, ticks, types, kinds_and_parents, depths, names, ends, rule_11, rule_12, rule_13, rule_14, whole_supplies,
-                  whole_limits, whole_hosts, not_whole, whole_chains, orders, whole_orders, longest, neighbours):
+                  whole_limits, whole_hosts, not_whole, whole_chains, orders, whole_orders, longest, neighbours, editions, spare_bytes, misses, hard_in_edition_2,
+                  rule_20, rule_11_soft, soft_edges, soft_siblings, soft_orders, longest_soft, soft_neighbours):
         group(v.add)
     return v.all
 
@@ -264,7 +315,7 @@ def examples(add):
 
 def counts(add):
     example = lay(EXAMPLE)
-    for place, what, bad in ((0, "tick", (0, 2, 255)), (9, "supply", (0, 9, 255)), (14, "node", (0, 65, 255)), (45, "name", (0, 2, 4, 255))):
+    for place, what, bad in ((0, "tick", (0, 3, 255)), (9, "supply", (0, 9, 255)), (14, "node", (0, 65, 255)), (45, "name", (0, 2, 4, 255))):
         for count in bad:
             add(f"{what}-count-{count}", put(example, place, count), f"refused 2 at {place}", 0)
     add("node-count-65-before-name-count-0", put(example, 14, 65, 45, 0), "refused 2 at 14")
@@ -272,7 +323,8 @@ def counts(add):
     add("supply-count-2-reads-on-into-nodes", put(example, 9, 2), "refused 4 at 14")
     add("node-count-2-takes-a-node-for-names", put(example, 14, 2), "refused 2 at 35")
     add("node-count-4-takes-names-for-a-node", put(example, 14, 4), "refused 5 at 45")
-    add("just-a-tick-count-2", b"\2", "refused 2 at 0")
+    add("just-a-tick-count-2", b"\2", "refused 1 at 1")
+    add("just-a-tick-count-3", b"\3", "refused 2 at 0")
     add("ends-after-supply-count-9", put(example, 9, 9)[:10], "refused 2 at 9")
 
 
@@ -657,6 +709,7 @@ def long_plan():
 
 
 def longest(add):
+    """Of edition 1."""
     data = lay(long_plan())
     assert len(data) == 2796
     add("longest-plan", data, "accepted 64", 64)
@@ -676,10 +729,226 @@ def neighbours(add):
             add(f"example-byte-{place}-{word}-1", data, answer(data).split(":")[0])
 
 
+# Edition 2
+
+NODE = (0, 1, 2, 4, 6, 8, 10, 12)  # where the fields of a node start: kind, parent, wanted C and T, D, W, served C and T
+DOOR, RACK, LOG, MEDIA = range(4)  # the nodes of SOFT
+
+
+def place_of(i, field=0):
+    """Where node i of a plan with one supply has a field."""
+    return 23 + 14 * i + field
+
+
+def editions(add):
+    soft_plan = lay(SOFT)
+    assert soft_plan == bytes.fromhex(
+        "02 E8030000 03000000 0000000000000000 01 0100 0100 04 0000 0100 0400 0000 0100 0100 0400 0200 0200 0C00 0000 0100 0200 0C00"
+        "0081 0100 0C00 0000 0100 0100 0C00 0000 0300 0400 0200 0300 0700 0C00 04 04646F6F72 047261636B 036C6F67 056D65646961")
+    add("soft", soft_plan, "accepted 4 of edition 2", 4)
+    add("soft-asked-for-a-name", soft_plan, "accepted 4 of edition 2", MEDIA)
+    fields = [0, 1, 5, *range(9, 17), 17, 18, 20, 22] + [place_of(i, field) for i in range(4) for field in NODE] + list(range(79, 100))
+    for length in range(1, 100):
+        first = max(place for place in fields if place <= length)
+        add(f"soft-cut-to-{length}-bytes", soft_plan[:length], f"refused 1 at {first}", 1 if length % 20 == 0 else None)
+    for count in (0, 3, 255):
+        add(f"soft-tick-count-{count}", put(soft_plan, 0, count), "refused 2 at 0", 0)
+    add("soft-tick-count-0-before-P-0", put(soft_plan, 0, bytes(5)), "refused 2 at 0")
+    add("soft-tick-count-1", put(soft_plan, 0, 1), "refused 2 at 9", 0)
+    add("soft-as-edition-1-without-the-eight-bytes", put(soft_plan[:9] + soft_plan[17:], 0, 1), "refused 4 at 27")
+    add("example-with-tick-count-2", put(lay(EXAMPLE), 0, 2), "refused 3 at 9", 0)
+    add("example-in-edition-2", "edition 2\n" + EXAMPLE, "accepted 3 of edition 2", 2)
+    add("example-in-edition-2-nodes-of-ten-bytes", put(lay(EXAMPLE)[:9] + bytes(8) + lay(EXAMPLE)[9:], 0, 2), "refused 19 at 29")
+    for place, what, bad in ((17, "supply", (0, 9)), (22, "node", (0, 65)), (79, "name", (0, 3, 5))):
+        for count in bad:
+            add(f"soft-{what}-count-{count}", put(soft_plan, place, count), f"refused 2 at {place}")
+    add("soft-one-byte-left-over", soft_plan + b"\0", "refused 10 at 100")
+    add("soft-left-over-before-rule-11", put(soft_plan, place_of(MEDIA, 6), lay_type((1, 3))) + b"\0", "refused 10 at 100")
+    add("soft-left-over-before-rule-20", put(soft_plan, place_of(MEDIA), 1) + b"\0", "refused 10 at 100")
+
+
+def spare_bytes(add):
+    soft_plan = lay(SOFT)
+    for place in range(9, 17):
+        for byte in (1, 255):
+            add(f"spare-byte-{place}-is-{byte}", put(soft_plan, place, byte), f"refused 3 at {place}", 1 if byte == 1 else None)
+        add(f"spare-byte-{place}-is-128-and-the-file-ends", put(soft_plan, place, 128)[:place + 1], f"refused 3 at {place}")
+    add("spare-bytes-all-set", put(soft_plan, 9, b"\xff" * 8), "refused 3 at 9")
+    add("spare-bytes-12-and-16-set", put(soft_plan, 12, 1, 16, 1), "refused 3 at 12")
+    add("spare-bytes-a-second-tick", put(soft_plan, 9, soft_plan[1:9]), "refused 3 at 9")
+    add("spare-byte-set-before-supply-count-0", put(soft_plan, 16, b"\1\0"), "refused 3 at 16")
+    add("P-0-before-a-spare-byte-set", put(soft_plan, 1, bytes(4), 9, 1), "refused 3 at 1")
+    add("Q-0-before-a-spare-byte-set", put(soft_plan, 5, bytes(4), 9, 1), "refused 3 at 5")
+    add("Q-1000001-before-the-spare-bytes-missing", put(soft_plan, 5, (1_000_001).to_bytes(4, "little"))[:9], "refused 3 at 5")
+    add("soft-P-1000000-and-Q-1000000", put(soft_plan, 1, (1_000_000).to_bytes(4, "little") * 2), "accepted 4 of edition 2")
+
+
+def misses(add):
+    soft_plan = lay(SOFT)
+    leaf, host = place_of(MEDIA, 6), place_of(RACK, 6)
+    for D, W in ((0, 0), (1, 0), (2, 1), (3, 2), (0, 1025), (1, 1025), (1025, 1024), (1025, 1025), (256, 1), (0, 65535), (65535, 65535), (65535, 1024)):
+        add(f"media-misses-{D}-of-{W}", put(soft_plan, leaf, lay_type((D, W))), f"refused 19 at {leaf}", 1 if W == 0 else None)
+    for D, W in ((0, 0), (1, 1), (1, 3), (3, 3), (1, 1024), (1024, 1024), (0, 1025), (4, 3)):
+        add(f"host-misses-{D}-of-{W}", put(soft_plan, host, lay_type((D, W))), f"refused 19 at {host}", 1 if D == 1 else None)
+    for i, what in ((DOOR, "first-node"), (LOG, "leaf-in-a-host")):
+        add(f"{what}-misses-1-of-0", put(soft_plan, place_of(i, 6), lay_type((1, 0))), f"refused 19 at {place_of(i, 6)}")
+    add("two-nodes-with-W-0", put(soft_plan, host, bytes(4), leaf, bytes(4)), f"refused 19 at {host}")
+    for by in (2, 3):
+        add(f"D-65535-before-W-missing-after-{by}-bytes", put(soft_plan, leaf, b"\xff\xff")[:leaf + by], f"refused 1 at {leaf + 2}")
+    add("host-D-1-before-W-missing", put(soft_plan, host, 1)[:host + 2], f"refused 1 at {host + 2}")
+    add("W-0-and-the-file-ends", put(soft_plan, leaf, bytes(4))[:leaf + 4], f"refused 19 at {leaf}")
+    add("wanted-malformed-before-W-0", put(soft_plan, leaf - 4, lay_type((5, 4)) + bytes(4)), f"refused 4 at {leaf - 4}")
+    add("wanted-malformed-before-D-missing", put(soft_plan, leaf - 4, lay_type((5, 4)))[:leaf], f"refused 4 at {leaf - 4}")
+    add("W-0-before-served-malformed", put(soft_plan, leaf, bytes(4) + lay_type((13, 12))), f"refused 19 at {leaf}")
+    add("W-0-before-served-missing", put(soft_plan, leaf, bytes(4))[:leaf + 5], f"refused 19 at {leaf}")
+    add("soft-served-malformed", put(soft_plan, leaf + 4, lay_type((13, 12))), f"refused 4 at {leaf + 4}")
+    add("soft-served-malformed-before-next-kind-bad", put(soft_plan, host + 4, lay_type((13, 12)), place_of(LOG), 3), f"refused 4 at {host + 4}")
+    add("W-0-before-next-kind-bad", put(soft_plan, host, bytes(4), place_of(LOG), 3), f"refused 19 at {host}")
+    add("soft-kind-bad-before-W-0", put(soft_plan, place_of(MEDIA), 3, leaf, bytes(4)), f"refused 5 at {place_of(MEDIA)}")
+    add("soft-parent-bad-before-W-0", put(soft_plan, place_of(MEDIA, 1), 1, leaf, bytes(4)), f"refused 6 at {place_of(MEDIA, 1)}")
+    add("soft-depth-9-before-W-0", put(lay("edition 2\n" + chain(9)), place_of(8, 6), bytes(4)), f"refused 7 at {place_of(8, 1)}")
+    add("W-0-before-name-count-0", put(soft_plan, leaf, bytes(4), 79, 0), f"refused 19 at {leaf}")
+    add("host-D-1-before-rule-11", put(soft_plan, leaf, lay_type((1, 3)), host, lay_type((1, 3))), f"refused 19 at {host}")
+    add("D-and-W-exchanged", SOFT.replace("2/3", "3/2"), f"refused 19 at {leaf}")
+    add("host-that-becomes-a-leaf-may-miss", "edition 2; supply 1/1; aligned a on 0 wants 1/2 misses 1/1 gets 0/2\n", "accepted 1 of edition 2")
+
+
+def soft_alone(kind, wanted, misses, served):
+    return f"edition 2\nsupply 1/1\n{kind} a on 0 wants {wanted} misses {misses} gets {served}\n"
+
+
+ALLOWED = "accepted 1 of edition 2"
+
+
+def soft_cases(add, rows):
+    for kind, wanted, misses, served, meant in rows:
+        add(f"{kind}-wants-{wanted}-misses-{misses}-gets-{served}".replace("/", "of"), soft_alone(kind, wanted, misses, served), meant,
+            0 if meant[0] == "r" else None)
+
+
+def hard_in_edition_2(add):
+    """Leaves with D = 0 and all hosts, whatever W is: decided as in edition 1."""
+    soft_cases(add, [(kind, wanted, f"0/{W}", served, meant) for W in (1, 2, 3, 1024) for kind, wanted, served, meant in (
+        ("aligned", "1/5", "1/4", "refused 11 at 0"), ("aligned", "2/8", "1/4", ALLOWED), ("aligned", "3/4", "7/12", "refused 11 at 0"),
+        ("aligned", "1/6", "1/4", ALLOWED), ("aligned", "3/4", "11/12", ALLOWED), ("sliding", "2/8", "2/4", ALLOWED),
+        ("sliding", "3/8", "2/4", "refused 11 at 0"), ("sliding", "1/7", "1/4", ALLOWED), ("host", "2/4", "2/4", ALLOWED),
+        ("host", "1/5", "1/4", "refused 11 at 0"), ("host", "1/6", "1/4", ALLOWED))])
+    add("example-in-edition-2-with-other-W", "edition 2\n" + EXAMPLE.replace("gets", "misses 0/1024 gets"), "accepted 3 of edition 2")
+
+
+def rule_20(add):
+    """A soft leaf is aligned, and one of its served T and T' divides the other, whether or not rule 11 is kept."""
+    soft_cases(add, [(kind, wanted, misses, served, "refused 20 at 0") for kind, wanted, misses, served in (
+        ("sliding", "3/4", "2/3", "7/12"), ("sliding", "1/8", "1/2", "4/4"), ("sliding", "1/4", "1/1", "4/4"), ("sliding", "0/4", "1/3", "1/4"),
+        ("sliding", "0/1", "1/1", "0/1"), ("sliding", "1/5", "5/5", "1/4"), ("sliding", "1/1", "1024/1024", "1/1"),
+        ("aligned", "1/5", "1/2", "1/4"), ("aligned", "1/6", "1/2", "1/4"), ("aligned", "1/6", "2/2", "1/4"), ("aligned", "1/6", "1/1", "0/4"),
+        ("aligned", "0/6", "1/3", "1/4"), ("aligned", "0/6", "3/3", "4/4"), ("aligned", "1/4", "1/2", "6/6"), ("aligned", "1/4", "1/1", "6/6"),
+        ("aligned", "1/4096", "1024/1024", "4095/4095"), ("aligned", "1/4095", "1/1024", "4096/4096"), ("aligned", "2/2", "1/1", "3/3"))])
+
+
+def rule_11_soft(add):
+    """The request's own example and its neighbours: served periods of three windows, each of 3/4."""
+    soft_cases(add, [("aligned", "3/4", f"{D}/3", "7/12", meant) for D, meant in ((1, "refused 11 at 0"), (2, ALLOWED), (3, ALLOWED))])
+    for C, u in ((12, 0), (11, 0), (10, 1), (9, 1), (8, 2), (6, 3), (5, 3), (0, 3)):
+        soft_cases(add, [("aligned", "3/4", f"{D}/3", f"{C}/12", ALLOWED if u <= D else "refused 11 at 0") for D in (1, 2)])
+    for W, least in ((1, 1), (2, 2), (4, 4), (5, 4), (6, 4), (7, 6), (8, 6), (9, 6), (10, 8), (1023, 682), (1024, 684)):
+        soft_cases(add, [("aligned", "3/4", f"{D}/{W}", "7/12", ALLOWED if least <= D else "refused 11 at 0")
+                         for D in sorted({1, least - 1, least, W}) if D > 0])
+
+
+def soft_edges(add):
+    rows = []
+    for wanted, served, W, least in (
+            ("2/4", "1/4", 1, 1), ("2/4", "1/4", 3, 3), ("2/4", "1/4", 1024, 1024), ("2/4", "2/4", 3, 0), ("4/4", "4/4", 1024, 0), ("1/1", "0/1", 2, 2),
+            ("1/1", "1/1", 1, 0), ("4096/4096", "4095/4096", 1024, 1024), ("4096/4096", "4096/4096", 1024, 0),  # T = T'
+            ("0/4", "0/12", 3, 0), ("0/4", "0/4", 1, 0), ("0/8", "0/4", 1024, 0), ("0/1", "0/4096", 1024, 0),  # C' = 0
+            ("1/4", "0/12", 3, 3), ("1/4", "0/12", 4, 4), ("1/1", "0/4096", 1024, 1024), ("4/4", "0/8", 5, 5), ("4/4", "6/8", 5, 5),  # u = K
+            ("4/4", "7/8", 5, 3),
+            ("3/8", "1/4", 3, 3), ("2/8", "1/4", 3, 0), ("3/8", "1/4", 1024, 1024), ("1/4096", "0/1", 2, 2), ("4096/4096", "1/1", 2, 0),
+            ("2/4096", "1/4", 1024, 0), ("1024/4096", "1/4", 7, 0), ("1025/4096", "1/4", 7, 7),  # T divides T'
+            ("2/2", "11/12", 4, 2), ("2/2", "11/12", 6, 1), ("2/2", "11/12", 5, 2), ("2/2", "11/12", 7, 2), ("2/2", "11/12", 1, 1),  # not the first
+            ("2/2", "5/8", 6, 5), ("2/2", "5/8", 4, 3), ("2/2", "5/8", 3, 3), ("2/2", "5/8", 8, 6), ("2/2", "5/8", 1022, 767),  # covered in part
+            ("1/1", "3584/4096", 1024, 512), ("1/1", "3584/4096", 1023, 1023), ("1/1", "4095/4096", 1024, 1), ("1/1", "4095/4096", 1023, 2),
+            ("1/1", "3072/4096", 1024, 1024), ("1/1", "3073/4096", 1024, 1023), ("2048/2048", "4094/4096", 3, 3), ("2048/2048", "4095/4096", 3, 2)):
+        for D in sorted({1, least - 1, least, least + 1, W}):
+            if 0 < D <= W:
+                rows.append(("aligned", wanted, f"{D}/{W}", served, ALLOWED if least <= D else "refused 11 at 0"))
+    soft_cases(add, rows)
+
+
+def soft_siblings(add):
+    """Rules 12 to 14 go by the served type, of a soft leaf too."""
+    meant = "accepted 4 of edition 2"
+    add("soft-core-overfull", SOFT.replace("7/12", "8/12"), "refused 14 at 3")
+    add("soft-served-less-and-misses-all", SOFT.replace("2/3", "3/3").replace("7/12", "5/12"), meant)
+    add("soft-served-less", SOFT.replace("7/12", "6/12"), "refused 11 at 3")
+    add("soft-period-at-odds", SOFT.replace("2/3 gets 7/12", "4/4 gets 7/16"), "refused 13 at 3")
+    add("soft-on-a-core-of-period-5", SOFT.replace("supply 1/1", "supply 4/5"), "refused 12 at 0")
+    add("soft-on-a-whole-core-of-5", SOFT.replace("supply 1/1", "supply 5/5"), meant)
+    add("soft-leaf-in-a-host", SOFT.replace("wants 1/12 gets 1/12", "wants 1/4 misses 2/3 gets 2/12"), meant)
+    add("soft-leaf-in-a-host-misses-one-too-few", SOFT.replace("wants 1/12 gets 1/12", "wants 1/4 misses 1/3 gets 2/12"), "refused 11 at 2")
+    add("soft-leaf-in-a-host-overfull", SOFT.replace("wants 1/12 gets 1/12", "wants 1/4 misses 2/3 gets 3/12"), "refused 14 at 2")
+    add("every-leaf-soft", SOFT.replace("wants 1/4 gets", "wants 1/4 misses 1/7 gets").replace("wants 1/12 gets", "wants 1/12 misses 9/9 gets"), meant)
+    add("soft-media-twice-at-different-D", "edition 2; supply 1/1; supply 1/1; aligned a on 0 wants 3/4 misses 2/3 gets 7/12; "
+        "aligned b on 1 wants 3/4 misses 1/3 gets 7/12\n", "refused 11 at 1")
+    add("soft-name-occurs-before", SOFT.replace("aligned log", "aligned rack"), "refused 9 at 90")
+
+
+def soft_orders(add):
+    """Two faults, of which the document's order picks one: node by node, at each 20 and then 11; after all of them 12 to 14."""
+    bad = (("rule-20-by-periods", 20, "aligned %s on 0 wants 1/6 misses 1/2 gets 1/4\n"),
+           ("rule-20-by-the-kind", 20, "sliding %s on 0 wants 3/4 misses 2/3 gets 7/12\n"),
+           ("rule-11-of-a-soft-leaf", 11, "aligned %s on 0 wants 3/4 misses 1/3 gets 7/12\n"),
+           ("rule-11-of-a-hard-leaf", 11, "aligned %s on 0 wants 1/5 gets 1/4\n"))
+    for first, second in itertools.permutations(bad, 2):
+        label, number, both = f"{first[0]}-before-{second[0]}", first[1], first[2] % "a" + second[2] % "b"
+        add(label, "edition 2; supply 1/1\n" + both, f"refused {number} at 0")
+        add(f"in-order-and-then-{label}", "edition 2; supply 1/1; aligned z on 0 wants 1/4 gets 1/4\n" + both, f"refused {number} at 1")
+    for _, fault_of, node in bad[0], bad[2]:
+        node %= "z"
+        add(f"soft-rule-{fault_of}-at-a-late-node-before-12", "edition 2; supply 1/2; aligned a on 0 wants 1/3 gets 1/3\n" + node, f"refused {fault_of} at 1")
+        add(f"soft-rule-{fault_of}-at-a-late-node-before-13", "edition 2\n" + siblings("1/1", "0/4", "0/6") + node, f"refused {fault_of} at 2")
+        add(f"soft-rule-{fault_of}-at-a-late-node-before-14", "edition 2\n" + siblings("1/2", "2/2") + node, f"refused {fault_of} at 1")
+    hosts = "edition 2; supply 1/1; host h on 0 wants 1/4 gets 1/4; aligned a in h wants 1/4 misses %s gets %s\n"
+    add("rule-11-of-a-soft-leaf-in-a-host-before-its-12", hosts % ("1/2", "0/2"), "refused 11 at 1")
+    add("rule-12-of-a-soft-leaf-in-a-host", hosts % ("2/2", "0/2"), "refused 12 at 1")
+    add("rule-20-of-a-soft-leaf-in-a-host-before-its-12", hosts % ("2/2", "0/6"), "refused 20 at 1")
+
+
+def long_soft_plan():
+    """The long plan in edition 2, with soft leaves among the aligned ones and W of all sizes."""
+    head, *lines = long_plan().splitlines()
+    for k, misses in enumerate(("0/1024", "0/7", "1/2", "1023/1024", "0/5", "1024/1024", "0/1024", "0/1")):
+        for i in range(8 + 8 * k, 16 + 8 * k):
+            lines[i] = lines[i].replace(" gets ", f" misses {misses} gets ")
+    return "\n".join(["edition 2", head] + lines)
+
+
+def longest_soft(add):
+    data = lay(long_soft_plan())
+    assert len(data) == 3060
+    node_63 = 9 + 8 + 33 + 1 + 14 * 63
+    add("longest-soft-plan", data, "accepted 64 of edition 2", 63)
+    add("longest-soft-plan-and-a-byte", data + b"!", "refused 10 at 3060", 63)
+    add("longest-soft-plan-last-byte-missing", data[:-1], "refused 1 at 3059")
+    add("longest-soft-plan-last-name-occurs-before", data[:-32] + data[3060 - 66 + 1:3060 - 33], "refused 9 at 3027")
+    add("longest-soft-plan-last-node-with-D-1", put(data, node_63 + 6, 1), f"refused 19 at {node_63 + 6}")
+    add("longest-soft-plan-node-47-soft-and-sliding", put(data, node_63 - 14 * 16, 1), "refused 20 at 47")
+
+
+def soft_neighbours(add):
+    """The plan with a soft leaf, one byte one more or one less: nobody had an answer in mind here."""
+    data = lay(SOFT)
+    for place in range(100):
+        for word, by in (("plus", 1), ("minus", 255)):
+            changed = put(data, place, (data[place] + by) % 256)
+            add(f"soft-byte-{place}-{word}-1", changed, answer(changed).split(":")[0])
+
+
 def main(words):
     if words == ["vectors"]:
         lines = [" ".join([label, data.hex() or "-"] + ([] if asked is None else [str(asked)])) for label, (data, asked) in vectors().items()]
-        assert len("\n".join(lines)) < 131072, "the program reads no more"
+        assert len("\n".join(lines)) < 524288, "the program reads no more"
         print("\n".join(lines))
     elif words == ["expect"]:
         for label, (data, asked) in vectors().items():

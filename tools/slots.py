@@ -1,11 +1,11 @@
 #!/usr/bin/env python3
-"""Giving out slots from the sentences of document 01, "Giving out slots", and of document 02, request 12. It knows nothing of the crates; plans and
+"""Giving out slots from the sentences of document 01, "Giving out slots", and of document 02, requests 6 and 12. It knows nothing of the crates; plans and
 rules are those of tools/plans.py.
 
   python3 tools/slots.py cases          the cases of crates/vectors_dispatch/stdin, one a line
   python3 tools/slots.py expect         what the program of that crate has to print
   python3 tools/slots.py check          demand 3 tried with the switch off, on, and set anew for each slot, and where it is on that nothing is wasted;
-                                        with plans (whole parents among them), supplies and declines that follow no pattern (seconds)
+                                        with plans (whole parents and soft leaves among them), supplies and declines that follow no pattern (seconds)
 
 A case is a label, an accepted plan in hex digits, any number of edits `with WHAT INDEX VALUE`, and what is done:
 
@@ -16,8 +16,8 @@ A case is a label, an accepted plan in hex digits, any number of edits `with WHA
   mixed SETTINGS SUPPLIES DECLINES ROOM
 
 SETTING is `off` or `on`. SETTINGS has a digit for each slot, 0 for off and 1 for on. Supply bytes are in hex digits, decline words too, with a comma
-between two; `-` stands for none. The state is the plan's fresh one. An edit changes the plan value (P, Q, the numbers S of supplies and N of nodes,
-supply, kind, parent, wants, gets) or the state (clock, left).
+between two; `-` stands for none. The state is the plan's fresh one. An edit changes the plan value (edition, P, Q, the numbers S of supplies and N of
+nodes, supply, kind, parent, wants, misses, gets) or the state (clock, left).
 What comes of it is printed as outcome, clock, the counts left (of all nodes, and on to the last that is not 0) and the room: a leaf, `-` idle, `x` not
 supplied, `.` not written; a comma stands between the cores of a slot. Of steps the outcome and eight answers of each come first. `demand` is a run
 and then, for each leaf, its wanted type and how many slots it received in each of its wanted windows inside the run. `mixed` makes a call for each
@@ -27,9 +27,9 @@ calls with their outcomes come first, and what each leaf received last.
 import collections, itertools, random, sys
 
 sys.dont_write_bytecode = True
-import pairs
-from plans import (EXAMPLE, WHOLE_CORE, WHOLE_HOST, Node, Plan, Refused, chain, depth, in_host, lay, names_a_parent, read, rules, siblings, type_of,
-                   well_formed, whole_chain)
+import pairs, soft
+from plans import (EXAMPLE, NONE_MISSED, SOFT, WHOLE_CORE, WHOLE_HOST, Node, Plan, Refused, borne, chain, depth, in_host, is_soft, lay, names_a_parent, read,
+                   rules, siblings, type_of, well_formed, whole_chain)
 
 LAST = 2 ** 40
 IDLE, NOT_SUPPLIED, NOT_WRITTEN = 254, 255, 200
@@ -37,17 +37,17 @@ OFF, ON = SETTINGS = 0, 1
 
 
 class Value:
-    """A plan value: two counts and all entries, those past the counts zeros."""
+    """A plan value: edition, tick, two counts and all entries, those past the counts zeros."""
 
     def __init__(self, plan):
-        self.P, self.Q, self.cores, self.size = plan.P, plan.Q, len(plan.supplies), len(plan.nodes)
+        self.edition, self.P, self.Q, self.cores, self.size = plan.edition, plan.P, plan.Q, len(plan.supplies), len(plan.nodes)
         self.supplies = plan.supplies + [(0, 0)] * (8 - self.cores)
-        self.nodes = plan.nodes + [Node(0, 0, (0, 0), (0, 0))] * (64 - self.size)
+        self.nodes = plan.nodes + [Node(0, 0, (0, 0), (0, 0), (0, 0))] * (64 - self.size)
 
     def broken(self):
-        """The number of a refusal from 2 to 7 or 11 to 14 that it breaks, or 0 where it is fit."""
+        """The number of a refusal from 2 to 7, 11 to 14, 19 or 20 that it breaks, or 0 where it is fit."""
         supplies, nodes = self.supplies[:self.cores], self.nodes[:self.size]
-        if not (1 <= self.cores <= 8 and 1 <= self.size <= 64):
+        if not (1 <= self.edition <= 2 and 1 <= self.cores <= 8 and 1 <= self.size <= 64):
             return 2
         if not (1 <= self.P <= 1_000_000 and 1 <= self.Q <= 1_000_000):
             return 3
@@ -58,6 +58,8 @@ class Value:
                 return 6
             if depth(node.parent, nodes) > 8:
                 return 7
+            if not (borne(node.kind, node.misses) if self.edition == 2 else node.misses == NONE_MISSED):
+                return 19
         try:
             rules(supplies, nodes)
         except Refused as refused:
@@ -168,22 +170,39 @@ def keeps_types(value, supplied):
                for k, (C, T) in enumerate(value.supplies[:value.cores]) for b in range(0, len(supplied), T))
 
 
-def declines_near(node, i, declined, start):
-    """Whether leaf i declines in a slot of its served periods that touch its wanted window from `start`."""
-    T, end = node.served[1], start + node.wanted[1]
+def declines_near(node, i, declined, start, end):
+    """Whether leaf i declines in a slot of its served periods that touch the slots from `start` up to before `end`."""
+    T = node.served[1]
     return any(word >> i & 1 for word in declined[start // T * T:(end + T - 1) // T * T])
 
 
-def demand(value, supplied, declined, answers):
-    """Asserts demand 3 of a run from a fresh start, and says in how many windows it spoke."""
-    spoken = 0
+def demand(value, supplied, declined, answers, seen):
+    """Asserts demand 3 of a run from a fresh start, and counts the windows of hard leaves and the stretches of soft ones in which it spoke."""
     for i in leaves(value) if keeps_types(value, supplied) else ():
         node = value.nodes[i]
-        for start in windows(node, len(supplied)):
-            if not declines_near(node, i, declined, start):
-                assert received(value, i, answers, start) >= node.wanted[0], (value.supplies, value.nodes[:value.size], i, start)
-                spoken += 1
-    return spoken
+        ask = ask_stretches if is_soft(node) else ask_windows
+        assert ask(value, i, len(supplied), declined, answers, seen), (value.supplies, value.nodes[:value.size], i)
+
+
+def ask_windows(value, i, slots, declined, answers, seen):
+    """Whether a hard leaf has its C' in each of its wanted windows inside the run, where it does not decline in a served period that touches the window."""
+    node = value.nodes[i]
+    spoken = [start for start in windows(node, slots) if not declines_near(node, i, declined, start, start + node.wanted[1])]
+    seen["windows"] += len(spoken)
+    return all(received(value, i, answers, start) >= node.wanted[0] for start in spoken)
+
+
+def ask_stretches(value, i, slots, declined, answers, seen):
+    """Whether a soft leaf has at most D windows short in each whole stretch inside the run, where it does not decline in a served period that touches the
+    stretch."""
+    node = value.nodes[i]
+    (C, T), (D, W) = node.wanted, node.misses
+    spoken = [start for start in range(0, slots - W * T + 1, W * T) if not declines_near(node, i, declined, start, start + W * T)]
+    short = [sum(received(value, i, answers, window) < C for window in range(start, start + W * T, T)) for start in spoken]
+    seen["stretches"] += len(spoken)
+    seen["short"] += sum(short)
+    seen["most"] += short.count(D)
+    return all(count <= D for count in short)
 
 
 # Cases
@@ -244,7 +263,9 @@ class Case:
         return f"{calls}{counted(value, state)}, room{listed(room, value.cores)}{self.demanded(value, room)}"
 
     def demanded(self, value, answers):
-        assert not self.edits and demand(value, self.supplied, self.declined, answers) > 0, self.label
+        seen = collections.Counter()
+        demand(value, self.supplied, self.declined, answers, seen)
+        assert not self.edits and seen["stretches" if any(map(is_soft, value.nodes)) else "windows"] > 0, self.label
         shown = ""
         for i in leaves(value):
             node = value.nodes[i]
@@ -255,14 +276,14 @@ class Case:
 
 def edited(value, state, what, index, number):
     i, node = int(index), value.nodes[int(index)]
-    if what in ("P", "Q", "S", "N"):
+    if what in ("edition", "P", "Q", "S", "N"):
         setattr(value, {"S": "cores", "N": "size"}.get(what, what), int(number))
     elif what == "supply":
         value.supplies[i] = type_of(number)
     elif what in ("kind", "parent"):
         value.nodes[i] = node._replace(**{what: int(number)})
-    elif what in ("wants", "gets"):
-        value.nodes[i] = node._replace(**{{"wants": "wanted", "gets": "served"}[what]: type_of(number)})
+    elif what in ("wants", "misses", "gets"):
+        value.nodes[i] = node._replace(**{{"wants": "wanted", "gets": "served"}.get(what, what): type_of(number)})
     elif what == "clock":
         state.clock = int(number)
     else:
@@ -342,7 +363,8 @@ def cases():
             if plain_steps:
                 found.append(Case(each.label + "-by-steps", plan, edits, "steps", [each.setting] * slots, supplied, declined))
 
-    for group in (plain, declining, supplying, trees, whole_parents, states, refused_plans, refused_runs, orders, varied, switched):
+    for group in (plain, declining, supplying, trees, whole_parents, states, refused_plans, refused_runs, orders, varied, switched,
+                  soft_leaves, soft_values):
         group(run_case)
     for label, plan, edits in fresh_starts():
         found.append(Case(label, plan, edits, "fresh"))
@@ -676,6 +698,56 @@ def at_the_ends(case):
     case("in-vain-and-room-beyond-stays", BESIDE, 2, decline=[2, 4], room=5, meant=("left 0 1 1 0, room - 3 . . .", "left 0 0 0 1, room 2 1 . . ."))
 
 
+SOFT_CORES = """\
+edition 2
+tick 250 1
+supply 3/4
+supply 1/2
+aligned door on 0 wants 1/4 gets 1/4
+aligned media on 0 wants 2/4 misses 2/3 gets 5/12
+aligned map on 0 wants 1/6 misses 1/2 gets 1/12
+aligned radio on 1 wants 1/2 misses 4/4 gets 2/6
+aligned camera on 1 wants 3/12 misses 2/2 gets 1/6
+"""
+SOFT_EDITS = (  # edits of plans of both editions, each beside the number that the value then breaks, 0 for none
+    (0, "soft-misses-all", SOFT, "misses 3 3/3"), (11, "soft-misses-one-too-few", SOFT, "misses 3 1/3"), (11, "soft-leaf-made-hard", SOFT, "misses 3 0/3"),
+    (11, "soft-longer-stretch", SOFT, "misses 3 2/4"), (0, "soft-longest-stretch", SOFT, "misses 3 684/1024"),
+    (11, "soft-longest-stretch-and-one-too-few", SOFT, "misses 3 683/1024"), (19, "soft-W-0", SOFT, "misses 3 2/0"), (19, "soft-D-over-W", SOFT, "misses 3 4/3"),
+    (19, "soft-W-1025", SOFT, "misses 3 2/1025"), (19, "soft-D-and-W-65535", SOFT, "misses 3 65535/65535"), (19, "soft-host-with-D-1", SOFT, "misses 1 1/3"),
+    (19, "soft-host-with-W-0", SOFT, "misses 1 0/0"), (0, "soft-host-with-W-1024", SOFT, "misses 1 0/1024"),
+    (0, "soft-hard-leaf-with-W-1024", SOFT, "misses 0 0/1024"), (19, "soft-hard-leaf-with-W-0", SOFT, "misses 2 0/0"), (20, "soft-and-sliding", SOFT, "kind 3 1"),
+    (20, "soft-periods-at-odds", SOFT, "wants 3 3/5"), (20, "soft-periods-at-odds-and-C-0", SOFT, "wants 3 0/5"), (11, "soft-wants-all", SOFT, "wants 3 4/4"),
+    (0, "soft-wants-longer-windows", SOFT, "wants 3 7/24"), (2, "soft-edition-0", SOFT, "edition 0 0"), (2, "soft-edition-3", SOFT, "edition 0 3"),
+    (2, "soft-edition-255", SOFT, "edition 0 255"), (19, "soft-leaf-in-edition-1", SOFT, "edition 0 1"), (0, "edition-2", EXAMPLE, "edition 0 2"),
+    (2, "edition-0", EXAMPLE, "edition 0 0"), (2, "edition-3", EXAMPLE, "edition 0 3"), (19, "edition-1-and-W-2", EXAMPLE, "misses 1 0/2"),
+    (19, "edition-1-and-D-1", EXAMPLE, "misses 2 1/1"), (19, "edition-1-and-W-0", EXAMPLE, "misses 0 0/0"), (0, "edition-1-unchanged", EXAMPLE, "misses 1 0/1"))
+
+
+def soft_leaves(case):
+    """Soft leaves are given slots as hard ones are."""
+    case("soft", SOFT, 12, meant=("left 0 0 0 0, room 0 2 - 3 0 3 3 3 0 3 3 3", "left 0 1 0 0, room 0 2 3 3 0 3 3 3 0 3 3 -"))
+    case("soft-media-declines-once", SOFT, 12, decline=[0] * 5 + [8] + [0] * 6,
+         meant=("left 0 0 0 1, room 0 2 - 3 0 - 3 3 0 3 3 3", "left 0 1 0 0, room 0 2 3 3 0 - 3 3 0 3 3 3"))
+    case("soft-log-declines-always", SOFT, 12, decline=4,
+         meant=("left 0 0 1 0, room 0 - - 3 0 3 3 3 0 3 3 3", "left 0 2 1 0, room 0 3 3 3 0 3 3 3 0 3 - -"))
+    case("soft-cores", SOFT_CORES, 24, supply=[3, 1, 3, 0] * 6)
+    case("soft-cores-all-supplied", SOFT_CORES, 12)
+
+
+def soft_values(case):
+    for number, label, plan, edit in SOFT_EDITS:
+        value = Value(read(lay(plan)))
+        edited(value, State(0, []), *edit.split())
+        assert value.broken() == number, (label, value.broken())
+        case("plan-value-" + label, plan, 4, edits=(edit,), room=4)
+    case("plan-value-soft-periods-at-odds-and-misses-all", SOFT, 4, edits=("wants 3 3/5", "misses 3 3/3"), room=4)
+    case("plan-value-soft-20-and-11-at-an-earlier-node", SOFT, 4, edits=("wants 3 3/5", "wants 0 1/5"), room=4)
+    case("plan-value-soft-as-hard-in-edition-1", SOFT, 12, edits=("edition 0 1", "misses 3 0/1", "wants 3 0/4"))
+    case("plan-value-edition-2-and-a-soft-leaf", EXAMPLE, 8, edits=("edition 0 2", "misses 1 1/2", "wants 1 1/2"))
+    case("plan-value-soft-junk-past-the-last-node", SOFT, 12, edits=("misses 4 9/0", "misses 63 65535/65535"))
+    case("plan-value-junk-past-the-last-node-of-edition-1", EXAMPLE, 4, edits=("misses 3 9/0", "misses 63 65535/65535"))
+
+
 def fresh_starts():
     yield "fresh-example", EXAMPLE, ()
     yield "fresh-tree", TREE, ()
@@ -684,6 +756,9 @@ def fresh_starts():
         yield "fresh-" + label, EXAMPLE, (edit,)
     yield "fresh-whole-core", WHOLE_CORE, ()
     for _, label, plan, edit in WHOLE_EDITS:
+        yield "fresh-" + label, plan, (edit,)
+    yield "fresh-soft", SOFT, ()
+    for _, label, plan, edit in SOFT_EDITS:
         yield "fresh-" + label, plan, (edit,)
     yield "fresh-ignores-junk", EXAMPLE, ("kind 3 2", "gets 3 9/0", "supply 1 9/0")
     yield "fresh-whatever-the-state-was", EXAMPLE, ("clock 0 5", "left 0 0")
@@ -708,6 +783,14 @@ def demands():
     yield "demand-sibling-gains-log-and-lamp-decline-now-and-then", SIBLING_GAINS, [1] * 20, [12, 4, 0, 0, 8] * 4
     yield "demand-two-hosts-in-vain", TWO_HOSTS, [1] * 24, [12] * 24
     yield "demand-nested-in-vain-at-depth-8", chain(8) + BESIDE_A_CHAIN, [1] * 16, [0x80] * 16
+    yield "demand-soft", SOFT, [1] * 36, [0] * 36
+    yield "demand-soft-and-a-stretch-that-is-not-over", SOFT, [1] * 35, [0] * 35
+    yield "demand-soft-log-declines-now-and-then", SOFT, [1] * 36, [4, 4, 0] * 12
+    yield "demand-soft-door-and-log-decline-now-and-then", SOFT, [1] * 36, [1, 4, 5, 0, 1, 0] * 6
+    yield "demand-soft-media-declines-in-the-second-stretch", SOFT, [1] * 36, [0] * 12 + [8, 0, 8] * 4 + [0] * 12
+    yield "demand-soft-cores-supplied-as-little-as-they-may", SOFT_CORES, [3, 1, 3, 0] * 12, [0] * 48
+    yield "demand-soft-cores-supplied-late", SOFT_CORES, [0, 3, 1, 3] * 12, [0] * 48
+    yield "demand-soft-cores-map-and-camera-decline-now-and-then", SOFT_CORES, [1, 3, 3, 0] * 12, [4, 16, 0, 0, 20, 0] * 8
 
 
 MIXED = (  # a plan, settings, supply bytes and decline words of slots, three times one after the other; who has each of them, worked out by hand
@@ -715,11 +798,13 @@ MIXED = (  # a plan, settings, supply bytes and decline words of slots, three ti
     ("off-in-the-middle", EXAMPLE, "1001", [1] * 4, [0] * 4, " 1 - 2 2"), ("on-and-then-off", EXAMPLE, "1100", [1] * 4, [0] * 4, " 1 2 - 2"),
     ("on-once-and-its-leaf-declines", BESIDE, "1000", [1] * 4, [2, 4, 0, 0], " 2 1 3 -"),
     ("off-once-and-its-leaf-declines", BESIDE, "0111", [1] * 4, [2, 4, 0, 0], " - 3 2 -"),
-    ("two-cores", CORES, "0011", [3] * 4, [2, 16, 18, 0], " -,4 2,5 2,5 1,4"))
+    ("two-cores", CORES, "0011", [3] * 4, [2, 16, 18, 0], " -,4 2,5 2,5 1,4"),
+    ("soft-leaf", SOFT, "000001111111", [1] * 12, [0] * 12, " 0 2 - 3 0 3 3 3 0 3 3 3"),
+    ("soft-leaf-and-on-at-first", SOFT, "111100000000", [1] * 12, [0] * 12, " 0 2 3 3 0 - 3 3 0 3 3 3"))
 DRAWN = (  # a plan, slots, supply bytes that come round, and who declines now and then
     ("drawn-example", EXAMPLE, 20, [1], 2), ("drawn-tree", TREE, 32, [7], 0b110), ("drawn-two-cores", TWO, 32, [3, 1, 1, 3], 2 + 8),
     ("drawn-ladder", LADDER, 24, [1], 8 + 16), ("drawn-two-hosts", TWO_HOSTS, 24, [1], 4), ("drawn-whole-host", WHOLE_HOST, 24, [1], 4),
-    ("drawn-nested", chain(8) + BESIDE_A_CHAIN, 16, [1], 0x80))
+    ("drawn-nested", chain(8) + BESIDE_A_CHAIN, 16, [1], 0x80), ("drawn-soft", SOFT, 48, [1], 4), ("drawn-soft-cores", SOFT_CORES, 48, [3, 1, 3, 0], 1 + 16))
 
 
 def mixed():
@@ -748,14 +833,14 @@ def tried_plan(draw):
     nodes = []
     for i in range(draw(range(4))):
         wanted, served = draw(range(1, 10)), draw(range(1, 10))
-        nodes.append(Node(2, 127 + i if i else 0, (wanted, wanted), (served, served)))
+        nodes.append(Node(2, 127 + i if i else 0, (wanted, wanted), (0, draw(range(1, 5))), (served, served)))
     nodes += sharing(draw, 127 + len(nodes) if nodes else 0, draw((4, 6, 8, 9, 10, 12)))
     T = draw(range(1, 10))
     return tried([(T, T)], nodes)
 
 
 def tried(supplies, nodes):
-    value = Value(Plan(1, 1, supplies, nodes, []))
+    value = Value(Plan(2, 1, 1, supplies, nodes, []))
     assert value.broken() == 0, (supplies, nodes)
     return value
 
@@ -766,7 +851,7 @@ def sharing(draw, parent, M):
     while left > 0:
         T = draw(periods(leaves, 1, M)) if len(leaves) < 4 else M
         C = draw(range(left * T // M + 1)) if len(leaves) < 4 else left
-        leaves.append(wants_most(draw((0, 1)), parent, (C, T), draw(range(1, 2 * T + 3))))
+        leaves.append(drawn_leaf(draw, draw((0, 1)), parent, (C, T)))
         left -= C * (M // T)
     return leaves
 
@@ -776,10 +861,25 @@ def periods(siblings, unit, M):
     return [t for t in range(unit, M + 1, unit) if M % t == 0 and all(t % node.served[1] == 0 or node.served[1] % t == 0 for node in siblings)]
 
 
-def wants_most(kind, parent, served, T):
-    """A node that wants, in windows of T, the most that its served type stands in for."""
+def drawn_leaf(draw, kind, parent, served):
+    """A leaf of this kind; of the aligned ones about half are soft."""
+    if kind == 0 and draw((False, True)):
+        return misses_least(draw, parent, served)
+    return wants_most(draw, kind, parent, served, draw(range(1, 2 * served[1] + 3)))
+
+
+def wants_most(draw, kind, parent, served, T):
+    """A hard node that wants, in windows of T, the most that its served type stands in for; with any W."""
     windows = pairs.each_window(("aligned", *served), ("sliding" if kind == 1 else "aligned", 0, T), pairs.argued)
-    return Node(kind, parent, (min(ones for _, ones in windows), T), served)
+    return Node(kind, parent, (min(ones for _, ones in windows), T), (0, draw(range(1, 5))), served)
+
+
+def misses_least(draw, parent, served):
+    """A soft leaf with a wanted type that keeps rule 20, and the least D above 0 that keeps rule 11."""
+    T = served[1]
+    wanted_T = draw([t for t in range(1, 2 * T + 1) if T % t == 0 or t % T == 0])
+    wanted, W = (draw(range(wanted_T + 1)), wanted_T), draw(range(1, 7))
+    return Node(0, parent, wanted, (max(1, soft.worst(served, wanted, W, soft.tried)), W), served)
 
 
 def tried_tree(draw):
@@ -804,7 +904,7 @@ def grow(draw, nodes, parent, own, level):
         most = left * t // M
         c = draw(range(min(1, most), most + 1))
         kind = draw((0, 1, 2, 2) if level < 5 and len(nodes) < 16 else (0, 1))
-        children.append(wants_most(kind, parent, (c, t), t if kind == 2 else draw(range(1, 2 * t + 3))))
+        children.append(wants_most(draw, kind, parent, (c, t), t) if kind == 2 else drawn_leaf(draw, kind, parent, (c, t)))
         left -= c * (M // t)
     nodes += children
     for i, child in enumerate(children):
@@ -852,7 +952,7 @@ def try_out(value, settings, supplied, declined, seen):
             nothing_wasted(value, before.left, *inputs, given, state.left)
             seen["idle"] += given.count(IDLE)
             seen["gained"] += sum(one == IDLE != other for one, other in zip(off, given))
-    seen["windows"] += demand(value, supplied, declined, answers)
+    demand(value, supplied, declined, answers, seen)
 
 
 def copied(state):
@@ -870,7 +970,8 @@ def nothing_wasted(value, left, supplied, declined, given, after):
 
 
 def check():
-    """Counts of what was seen: windows that demand 3 spoke of and, where the switch was on, idle slots and slots that would have been idle without."""
+    """Counts of what was seen: windows and stretches that demand 3 spoke of, windows short in these and how many stretches had just D of them, and, where
+    the switch was on, idle slots and slots that would have been idle without."""
     draw, seen, slots = random.Random(1).choice, collections.Counter(), 36
     for turn in range(2000):
         value = (tried_plan, tried_tree)[turn % 2](draw)
@@ -886,13 +987,14 @@ def check():
 def main(words):
     if words == ["cases"]:
         text = "\n".join(case.line() for case in cases())
-        assert len(text) < 262144, "the program reads no more"
+        assert len(text) < 524288, "the program reads no more"
         print(text)
     elif words == ["expect"]:
         print("\n".join(case.said() for case in cases()))
     elif words == ["check"]:
         seen = check()
-        print(f"{seen['windows']} windows have what was wanted; with the switch on {seen['gained']} slots went on to a sibling, "
+        print(f"{seen['windows']} windows of hard leaves have what was wanted; {seen['stretches']} stretches of soft ones have at most D windows short, "
+              f"{seen['most']} of them just D, {seen['short']} windows in all; with the switch on {seen['gained']} slots went on to a sibling, "
               f"and each of {seen['idle']} idle ones was for nobody")
     else:
         sys.exit(__doc__)

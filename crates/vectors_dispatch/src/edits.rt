@@ -2,6 +2,7 @@
 ghost use Prim.Native.Nat.{_<_};
 ghost use lib.ListN.{length};
 use dispatch::State;
+use meaning::Misses;
 use meaning::SlotType;
 use plans::Node;
 use plans::NodeKind;
@@ -15,7 +16,7 @@ pub struct Case {
     pub next: usize,
 }
 
-// The first letter of what is changed, where, and to what: a number, or the two numbers of a type.
+// The first letter of what is changed, where, and to what: a number, or the two numbers of a type or of what may be missed.
 pub struct Edit {
     pub what: u8,
     pub index: u64,
@@ -92,12 +93,19 @@ fn left_with(left: [u16; 64], edit: Edit) -> [u16; 64] {
 fn plan_with(plan: Plan, edit: Edit) -> Plan {
     let what = edit.what;
     match what {
+        b'e' => edition_with(plan, edit),
         b'P' | b'Q' => tick_with(plan, edit),
         b'S' | b'N' => count_with(plan, edit),
         b's' => supply_with(plan, edit),
-        b'k' | b'p' | b'w' | b'g' => nodes_with(plan, edit),
+        b'k' | b'p' | b'w' | b'm' | b'g' => nodes_with(plan, edit),
         _ => plan,
     }
+}
+
+fn edition_with(plan: Plan, edit: Edit) -> Plan {
+    let mut changed = plan;
+    changed.edition = eight(edit.value);
+    changed
 }
 
 fn tick_with(plan: Plan, edit: Edit) -> Plan {
@@ -146,39 +154,49 @@ fn node_with(node: Node, edit: Edit) -> Node {
     let kind = node.kind;
     let parent = node.parent;
     let wanted = node.wanted;
+    let misses = node.misses;
     let served = node.served;
     match what {
         b'k' => Node {
             kind: kind_of(edit.value),
             parent,
             wanted,
+            misses,
             served,
         },
         b'p' => Node {
             kind,
             parent: parent_of(edit.value),
             wanted,
+            misses,
             served,
         },
-        b'w' => Node {
-            kind,
-            parent,
-            wanted: type_of(edit),
-            served,
-        },
-        _ => Node {
-            kind,
-            parent,
-            wanted,
-            served: type_of(edit),
-        },
+        _ => numbers_with(node, edit),
     }
+}
+
+fn numbers_with(node: Node, edit: Edit) -> Node {
+    let what = edit.what;
+    let mut changed = node;
+    match what {
+        b'w' => changed.wanted = type_of(edit),
+        b'm' => changed.misses = misses_of(edit),
+        _ => changed.served = type_of(edit),
+    }
+    changed
 }
 
 fn type_of(edit: Edit) -> SlotType {
     SlotType {
         c: lines::sixteen(edit.value),
         t: lines::sixteen(edit.second),
+    }
+}
+
+fn misses_of(edit: Edit) -> Misses {
+    Misses {
+        d: lines::sixteen(edit.value),
+        w: lines::sixteen(edit.second),
     }
 }
 
@@ -197,6 +215,10 @@ fn parent_of(n: u64) -> Parent {
         128..=255 => Parent::Node((n - 128) as u8),
         _ => Parent::Node(255),
     }
+}
+
+fn eight(n: u64) -> u8 {
+    if n < 256 { n as u8 } else { 0 }
 }
 
 fn thirty_two(n: u64) -> u32 {

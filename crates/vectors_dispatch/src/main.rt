@@ -17,8 +17,8 @@ fn main() {
 }
 
 // Room for the whole input.
-fn room() -> [u8; 262144] {
-    [0; 262144]
+fn room() -> [u8; 524288] {
+    [0; 524288]
 }
 
 fn every_case(input: &[u8]) {
@@ -32,7 +32,7 @@ fn every_case(input: &[u8]) {
 // The case of a line.
 fn one_case(line: &[u8]) {
     let digits = lines::past(line, 0, b' ');
-    let mut file = [0u8; 2800];
+    let mut file = [0u8; 3072];
     let plan = read(lines::part(line, digits, b' '), &mut file);
     let state = dispatch::fresh(plan).state;
     let next = lines::past(line, digits, b' ');

@@ -1,18 +1,21 @@
 // Reads the plan files of standard input and prints what `reader` says of each, a line a file: `example 01e8.. 3` is a label, the bytes in hex, and,
-// where it stands there, a node whose name is asked for besides those of an accepted plan.
+// where it stands there, a node whose name is asked for besides those of an accepted plan. In edition 2 a node's D and W stand behind its name.
 // What it must print is worked out from documents 01 and 02, by `python3 tools/plans.py expect`; `python3 tools/plans.py vectors` makes its input.
 mod show;
+
+use plans::Node;
+use plans::Plan;
 
 fn main() {
     let mut input = room();
     let n = io::read_full(libc::STDIN_FILENO, &mut input);
-    let mut file = [0u8; 2800];
+    let mut file = [0u8; 3072];
     every_file(&input[..n], &mut file);
 }
 
 // Room for the whole input.
-fn room() -> [u8; 131072] {
-    [0; 131072]
+fn room() -> [u8; 524288] {
+    [0; 524288]
 }
 
 fn every_file(input: &[u8], file: &mut [u8]) {
@@ -44,8 +47,7 @@ fn read(file: &[u8]) {
     match answer {
         answers::Answer::Accepted => {
             show::number(b"accepted ", reading.plan.size);
-            show::print(b":");
-            names(file, reading.plan.size);
+            nodes(file, reading.plan);
         }
         answers::Answer::Refused { number, place } => {
             show::number(b"refused ", number as usize);
@@ -54,11 +56,39 @@ fn read(file: &[u8]) {
     }
 }
 
+// The edition, where it is not the first, and the names.
+fn nodes(file: &[u8], plan: Plan) {
+    if plan.edition == 1 {
+        show::print(b":");
+        names(file, plan.size);
+    } else {
+        show::number(b" of edition ", plan.edition as usize);
+        show::print(b":");
+        names_with_misses(file, plan);
+    }
+}
+
 fn names(file: &[u8], size: usize) {
     for i in 0..size {
         show::print(b" ");
         show::print(reader::name(file, i));
     }
+}
+
+fn names_with_misses(file: &[u8], plan: Plan) {
+    let size = lines::least(plan.size, 64);
+    for i in 0..size {
+        show::print(b" ");
+        show::print(reader::name(file, i));
+        misses(plan.nodes[i]);
+    }
+}
+
+// D and W of a node.
+fn misses(node: Node) {
+    let misses = node.misses;
+    show::number(b" ", misses.d as usize);
+    show::number(b"/", misses.w as usize);
 }
 
 // The name of node i. It is empty where the plan is refused or has no such node.

@@ -24,8 +24,8 @@ struct pair {
 };
 
 /* What a plan has beside its shape: names as long as can be and alike but for their last byte; hosts in the leaves' places; a leaf beside the hosts of each
- * core, all of whose leaves decline in every slot, so that with the setting on every slot comes back from them to that leaf. */
-enum special { PLAIN, NAMES_ALIKE, HOSTS_ALONE, IN_VAIN };
+ * core, all of whose leaves decline in every slot, so that with the setting on every slot comes back from them to that leaf; edition 2, and all leaves soft. */
+enum special { PLAIN, NAMES_ALIKE, HOSTS_ALONE, IN_VAIN, ALL_SOFT };
 
 /* A plan with so many nodes, spread over so many cores, each leaf at this depth. */
 struct shape {

@@ -34,10 +34,22 @@ static struct drafted_type most_wanted(struct drafted_type served, uint8_t kind,
 /* Leaves want in turn what they are served, a sliding type, and an aligned type of a period that has no divisor in common with the served one. */
 static struct drafted_node leaf(uint8_t parent, struct drafted_type served, uint32_t turn)
 {
-    struct drafted_node node = {turn % 3 == 1 ? SLIDING_LEAF : ALIGNED_LEAF, parent, served, served, 0, {0}};
+    struct drafted_node node = {turn % 3 == 1 ? SLIDING_LEAF : ALIGNED_LEAF, parent, served, NO_MISSES, served, 0, {0}};
     if (turn % 3 == 1) node.wanted = most_wanted(served, SLIDING_LEAF, (uint16_t)(2 * served.t + 1));
     if (turn % 3 == 2) node.wanted = most_wanted(served, ALIGNED_LEAF, (uint16_t)(2 * served.t - 1));
     return node;
+}
+
+/* Soft leaves want in turn what they are served; of windows of an eighth of the served period more than each can have; and all that windows of four such periods
+ * have. They allow just the misses that this can lead to, or one. */
+static struct drafted_node soft_leaf(uint8_t parent, struct drafted_type served, uint32_t turn)
+{
+    uint32_t t = turn % 3 == 0 ? served.t : turn % 3 == 1 ? served.t / 8u : 4u * served.t;
+    uint16_t w = turn % 2 == 0 ? 1021 : 10;
+    struct drafted_type wanted = most_wanted(served, ALIGNED_LEAF, (uint16_t)t);
+    if (turn % 3 == 1) wanted.c++;
+    uint16_t lost = draft_most_lost(served, wanted, w);
+    return (struct drafted_node){ALIGNED_LEAF, parent, wanted, {lost > 0 ? lost : 1, w}, served, 0, {0}};
 }
 
 /* Leaves alone, dealt out to the cores, with periods of 64, 128 and 256. */
@@ -46,7 +58,8 @@ static void draft_flat(struct draft *draft, struct shape shape)
     uint32_t sharers = (shape.nodes + shape.cores - 1u) / shape.cores;
     for (uint32_t i = 0; i < shape.nodes; i++) {
         uint16_t t = (uint16_t)(64 << i / shape.cores % 3);
-        draft->nodes[i] = leaf((uint8_t)(i % shape.cores), share(t, sharers), i);
+        uint8_t core = (uint8_t)(i % shape.cores);
+        draft->nodes[i] = shape.special == ALL_SOFT ? soft_leaf(core, share(t, sharers), i) : leaf(core, share(t, sharers), i);
     }
 }
 
@@ -59,7 +72,7 @@ static void draft_deep(struct draft *draft, struct shape shape)
         uint8_t parent = (uint8_t)(level == 0 ? chain % shape.cores : FIRST_NODE_BYTE + i - 1);
         struct drafted_type served = share(level < shape.depth / 2u ? 64 : 128, sharers);
         if (level == shape.depth - 1u && shape.special != HOSTS_ALONE) draft->nodes[i] = leaf(parent, served, chain);
-        else draft->nodes[i] = (struct drafted_node){HOST, parent, served, served, 0, {0}};
+        else draft->nodes[i] = (struct drafted_node){HOST, parent, served, NO_MISSES, served, 0, {0}};
     }
 }
 
@@ -73,7 +86,7 @@ static void draft_in_vain(struct draft *draft, struct shape shape)
         uint8_t parent = (uint8_t)(level == 0 ? core : FIRST_NODE_BYTE + i - 1);
         if (level == shape.depth || (core + 1) * of_core > shape.nodes) draft->nodes[i] = leaf((uint8_t)core, others, 0);
         else if (level == shape.depth - 1u) draft->nodes[i] = leaf(parent, one, 0);
-        else draft->nodes[i] = (struct drafted_node){HOST, parent, one, one, 0, {0}};
+        else draft->nodes[i] = (struct drafted_node){HOST, parent, one, NO_MISSES, one, 0, {0}};
     }
 }
 
@@ -119,6 +132,7 @@ void job_of_plan(struct job *job, struct shape shape, uint8_t setting, size_t sl
     struct draft draft;
     memset(job, 0, sizeof *job);
     memset(&draft, 0, sizeof draft);
+    draft.edition = shape.special == ALL_SOFT ? 2 : 1;
     draft.p = 1000;
     draft.q = 3;
     draft.supply_count = shape.cores;

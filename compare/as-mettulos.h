@@ -15,3 +15,6 @@
 #define model_depth mettulos_depth
 #define model_fit_plan mettulos_fit_plan
 #define model_rules mettulos_rules
+#define model_is_soft mettulos_is_soft
+#define model_soft_is_so_made mettulos_soft_is_so_made
+#define model_soft_stands_in mettulos_soft_stands_in

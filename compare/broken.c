@@ -36,6 +36,7 @@ static int break_depth(struct draft *draft, uint32_t i)
 {
     if (i + 1u >= draft->node_count) return 0;
     draft->nodes[i].kind = HOST;
+    draft->nodes[i].misses.d = 0;
     draft->nodes[i + 1 + chance_below(draft->node_count - i - 1u)].parent = (uint8_t)(128 + i);
     return 1;
 }
@@ -49,11 +50,36 @@ static int break_name(struct draft *draft, uint32_t i)
     return 1;
 }
 
+/* A soft leaf allows fewer misses than a stretch can lose. */
+static int break_eleven_soft(struct drafted_node *node)
+{
+    uint32_t lost = draft_most_lost(node->served, node->wanted, node->misses.w);
+    if (lost == 0) return 0;
+    node->misses.d = (uint16_t)(chance(60) ? lost - 1 : chance_below(lost));
+    return 1;
+}
+
 static int break_eleven(struct drafted_node *node)
 {
+    if (draft_is_soft(node)) return break_eleven_soft(node);
     uint32_t most = draft_most_wanted(node->served, node->kind, node->wanted.t);
     if (most >= node->wanted.t) return 0;
     node->wanted.c = (uint16_t)(most + 1 + (chance(50) ? 0 : chance_below(node->wanted.t - most)));
+    return 1;
+}
+
+/* A soft leaf slides, or wants a type whose period neither divides the served one nor is a multiple of it; half the time rule 11 is kept all the same. */
+static int break_twenty(struct drafted_node *node)
+{
+    uint32_t t = 1 + (uint32_t)chance_below(chance(80) ? 2u * node->served.t : 4096);
+    if (!draft_is_soft(node)) return 0;
+    if (chance(50)) node->misses.d = node->misses.w;
+    if (chance(40)) {
+        node->kind = SLIDING_LEAF;
+        return 1;
+    }
+    if (t > 4096 || t % node->served.t == 0 || node->served.t % t == 0) return 0;
+    node->wanted = (struct drafted_type){(uint16_t)(chance(30) ? 0 : chance_below(t + 1)), (uint16_t)t};
     return 1;
 }
 
@@ -121,6 +147,7 @@ int draft_break(struct draft *draft, uint32_t number, uint32_t depth)
     case 11: return break_eleven(&draft->nodes[i]);
     case 12: return break_twelve(draft, &draft->nodes[i]);
     case 13: return break_thirteen(draft, i);
+    case 20: return break_twenty(&draft->nodes[i]);
     default: return serve_to_the_edge(draft, i, 1);
     }
 }

@@ -26,6 +26,8 @@ void cases_of_deep_plans(uint64_t rounds);
 void cases_of_turns(uint64_t rounds);
 /* of_whole.c: whole parents, and those that are nearly so */
 void cases_of_whole_parents(uint64_t rounds);
+/* of_soft.c: soft leaves and plans of edition 2 */
+void cases_of_soft_leaves(uint64_t rounds);
 /* of_settings.c: slots with the setting off and on, and settings that are none */
 void cases_of_settings(uint64_t rounds);
 /* of_times.c */

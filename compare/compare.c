@@ -37,6 +37,8 @@ int main(int count, char **words)
     check_start();
     seen_kind("the model's small decisions against all allocations");
     meaning_of_small_pairs();
+    seen_kind("small leaves with D and W against all allocations");
+    meaning_of_small_misses();
     cases_of_pairs(rounds);
     cases_of_small_plans();
     cases_of_files(rounds);
@@ -45,6 +47,7 @@ int main(int count, char **words)
     cases_of_deep_plans(rounds);
     cases_of_turns(rounds);
     cases_of_whole_parents(rounds);
+    cases_of_soft_leaves(rounds);
     cases_of_settings(rounds);
     cases_of_times(rounds);
     cases_of_lengths(rounds);

@@ -188,8 +188,10 @@ static void serve_children(struct draft *draft, const struct tree *tree, uint8_t
         uint32_t share = take_share(left, tree->ends[i], ends, tree->is_end[i]);
         if (heir < NODES) share = i == heir ? left : 0;
         left -= share;
+        node->kind = tree->kind[i];
         node->served = take_type(&periods, share);
-        node->wanted = tree->kind[i] == HOST ? host_wants(node->served) : draft_wanted(node->served, tree->kind[i]);
+        node->wanted = node->kind == HOST ? host_wants(node->served) : draft_wanted(node->served, node->kind);
+        draft_misses(draft->edition, node);
     }
 }
 
@@ -217,7 +219,6 @@ static void shuffle(struct draft *draft, const struct tree *tree)
         uint32_t taken = ready[chance_below(count)];
         moved[taken] = (uint8_t)to;
         draft->nodes[to] = nodes[taken];
-        draft->nodes[to].kind = tree->kind[taken];
         draft->nodes[to].parent = tree->parent[taken] < 128 ? tree->parent[taken] : (uint8_t)(128 + moved[tree->parent[taken] - 128]);
     }
 }
@@ -227,6 +228,7 @@ void draft_deep(struct draft *draft, uint32_t most_nodes)
     struct tree tree;
     grow(&tree, most_nodes);
     memset(draft, 0, sizeof *draft);
+    draft->edition = (uint8_t)(1 + chance_below(2));
     draft->p = draft_tick();
     draft->q = draft_tick();
     draft->supply_count = (uint8_t)tree.cores;

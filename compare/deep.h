@@ -4,13 +4,13 @@
 
 #include "generate.h"
 
-/* Any number of cores from 1 to 8, any depth from 1 to 8, half the time as many nodes as there may be. */
+/* Any number of cores from 1 to 8, any depth from 1 to 8, half the time as many nodes as there may be; of either edition. */
 void draft_deep(struct draft *draft, uint32_t most_nodes);
 
 /* The depth of a node of a plan that is sound. */
 uint32_t draft_depth(const struct draft *draft, uint32_t i);
 
-/* Changes a sound plan so that it is refused by this number, one of 7, 9 and 11 to 14; by a rule at a node of this depth. 0 where the plan has no node at which
+/* Changes a sound plan so that it is refused by this number, one of 7, 9, 11 to 14, and 20; by a rule at a node of this depth. 0 where the plan has no node at which
  * that can be done; it may be changed then too. */
 int draft_break(struct draft *draft, uint32_t number, uint32_t depth);
 

@@ -40,7 +40,7 @@ static uint16_t one_of(const uint16_t *numbers, size_t count)
 
 #define ONE_OF(numbers) one_of(numbers, sizeof(numbers) / sizeof *(numbers))
 
-/* ---- sound plans */
+/* ---- types of sound plans */
 
 struct drafted_type draft_own_type(const struct draft *draft, uint8_t parent)
 {
@@ -133,6 +133,67 @@ struct drafted_type draft_wanted(struct drafted_type served, uint8_t kind)
     return (struct drafted_type){c, t};
 }
 
+/* ---- misses */
+
+int draft_is_soft(const struct drafted_node *node)
+{
+    return node->kind < 2 && node->misses.d > 0;
+}
+
+/* A short period or a long one, by chance, of those that divide t. */
+static uint16_t divisor_of(uint16_t t)
+{
+    uint16_t k;
+    do k = (uint16_t)(1 + chance_below(t < 12 ? t : 12));
+    while (t % k != 0);
+    return chance(70) ? (uint16_t)(t / k) : k;
+}
+
+struct drafted_type draft_soft_wanted(struct drafted_type served)
+{
+    uint32_t t = chance(70) ? divisor_of(served.t) : served.t * (1 + (uint32_t)chance_below(4));
+    if (t > 4096) t = served.t;
+    uint32_t most = draft_most_wanted(served, 0, (uint16_t)t);
+    uint32_t c = chance(75) ? most + 1 + (uint32_t)chance_below(3) : (uint32_t)chance_below(t + 1);
+    return (struct drafted_type){(uint16_t)(c < t ? c : t), (uint16_t)t};
+}
+
+/* By the short way: windows take the place of slots, and of each K at least K - u are met. */
+uint16_t draft_most_lost(struct drafted_type served, struct drafted_type wanted, uint16_t w)
+{
+    if (wanted.c == 0) return 0;
+    if (served.t % wanted.t != 0) return wanted.t / served.t * served.c < wanted.c ? w : 0;
+    uint32_t k = served.t / wanted.t, u = (served.t - (uint32_t)served.c) / (wanted.t + 1u - wanted.c);
+    if (u > k) u = k;
+    return (uint16_t)(w - draft_most_wanted((struct drafted_type){(uint16_t)(k - u), (uint16_t)k}, 0, w));
+}
+
+/* Mostly few, so that a run has whole stretches. */
+uint16_t draft_windows(void)
+{
+    static const uint16_t few[] = {1, 1, 2, 2, 3, 3, 4, 5, 6, 7}, many[] = {8, 12, 100, 1023, 1024, 1024};
+    if (chance(75)) return ONE_OF(few);
+    return chance(70) ? ONE_OF(many) : (uint16_t)(1 + chance_below(1024));
+}
+
+/* Just what a stretch can lose, or more. */
+static void soften(struct drafted_node *node)
+{
+    node->wanted = draft_soft_wanted(node->served);
+    uint16_t w = node->misses.w, lost = draft_most_lost(node->served, node->wanted, w), least = lost > 0 ? lost : 1;
+    node->misses.d = chance(70) ? least : (uint16_t)(least + chance_below(w - least + 1u));
+}
+
+void draft_misses(uint8_t edition, struct drafted_node *node)
+{
+    node->misses = (struct drafted_misses)NO_MISSES;
+    if (edition == 1) return;
+    node->misses.w = draft_windows();
+    if (node->kind == 0 && chance(50)) soften(node);
+}
+
+/* ---- sound plans, of such parts */
+
 static int name_occurs_before(const struct draft *draft, uint32_t i)
 {
     const struct drafted_node *node = &draft->nodes[i];
@@ -176,6 +237,7 @@ void draft_sound(struct draft *draft, uint32_t most_nodes)
     uint32_t parent_count = 0;
     int deep = chance(25);
     memset(draft, 0, sizeof *draft);
+    draft->edition = (uint8_t)(1 + chance_below(2));
     draft->p = draft_tick();
     draft->q = draft_tick();
     draft->supply_count = (uint8_t)(1 + chance_below(chance(50) ? 2 : 8));
@@ -191,6 +253,7 @@ void draft_sound(struct draft *draft, uint32_t most_nodes)
         node->parent = parent->byte;
         node->served = take_served(parent);
         node->wanted = draft_wanted(node->served, node->kind);
+        draft_misses(draft->edition, node);
         draft_name(draft, i);
         if (node->kind == 2 && parent->depth < 8) parents[parent_count++] = make_parent((uint8_t)(128 + i), parent->depth + 1, node->wanted);
     }
@@ -222,6 +285,26 @@ static void damage_tick(struct draft *draft)
     static const uint32_t edges[] = {0, 1, 1000000, 1000001, 16777216, 0xFFFFFFFFu};
     if (chance(50)) draft->p = edges[chance_below(6)];
     else draft->q = edges[chance_below(6)];
+}
+
+/* D and W at and beyond their edges, of any node: a host or a sliding leaf with a D above 0, a leaf that allows less than it loses. */
+static void damage_misses(struct drafted_misses *misses)
+{
+    static const uint16_t edges[] = {0, 1, 2, 1023, 1024, 1025, 32768, 65535};
+    switch (chance_below(5)) {
+    case 0: misses->d = ONE_OF(edges); break;
+    case 1: misses->w = ONE_OF(edges); break;
+    case 2: misses->d = (uint16_t)(misses->d + (chance(50) ? 1 : 65535)); break;
+    case 3: misses->d = (uint16_t)(misses->w + chance_below(2)); break;
+    default: *misses = (struct drafted_misses){misses->w, misses->d}; break;
+    }
+}
+
+/* The edition alone, so that D and W come and go. */
+static void damage_edition(struct draft *draft)
+{
+    static const uint16_t editions[] = {1, 1, 2, 2, 0, 3, 255};
+    draft->edition = (uint8_t)ONE_OF(editions);
 }
 
 static uint8_t odd_parent(const struct draft *draft, uint32_t i)
@@ -281,7 +364,7 @@ void draft_damage(struct draft *draft)
 {
     uint32_t i = (uint32_t)chance_below(draft->node_count), other = (uint32_t)chance_below(draft->node_count);
     struct drafted_node *node = &draft->nodes[i];
-    switch (chance_below(15)) {
+    switch (chance_below(19)) {
     case 0: damage_tick(draft); break;
     case 1: damage_type(&draft->supplies[chance_below(draft->supply_count)]); break;
     case 2: node->kind = (uint8_t)chance_below(chance(80) ? 4 : 256); break;
@@ -299,6 +382,10 @@ void draft_damage(struct draft *draft)
         break;
     case 12: hang_in_a_chain(draft, i); break;
     case 13: change_wholeness(draft, node); break;
+    case 14:
+    case 15: damage_misses(&node->misses); break;
+    case 16: damage_edition(draft); break;
+    case 17: draft->spare[chance_below(8)] = (uint8_t)chance_bits(); break;
     default: node->name[chance_below(node->name_length)] = (uint8_t)(chance(50) ? 32 : 127); break;
     }
 }
@@ -316,17 +403,21 @@ static uint8_t *put_type(uint8_t *at, struct drafted_type type)
     return put(put(at, type.c, 2), type.t, 2);
 }
 
+/* Only edition 1 has no spare bytes, and no D and W. */
 size_t draft_bytes(const struct draft *draft, uint8_t *bytes)
 {
-    uint8_t *at = put(bytes, 1, 1);
+    uint8_t *at = put(bytes, draft->edition, 1);
     at = put(put(at, draft->p, 4), draft->q, 4);
+    for (uint32_t k = 0; k < 8 && draft->edition != 1; k++) at = put(at, draft->spare[k], 1);
     at = put(at, draft->supply_count, 1);
     for (uint32_t i = 0; i < draft->supply_count; i++) at = put_type(at, draft->supplies[i]);
     at = put(at, draft->node_count, 1);
     for (uint32_t i = 0; i < draft->node_count; i++) {
         const struct drafted_node *node = &draft->nodes[i];
         at = put(put(at, node->kind, 1), node->parent, 1);
-        at = put_type(put_type(at, node->wanted), node->served);
+        at = put_type(at, node->wanted);
+        if (draft->edition != 1) at = put(put(at, node->misses.d, 2), node->misses.w, 2);
+        at = put_type(at, node->served);
     }
     at = put(at, draft->node_count, 1);
     for (uint32_t i = 0; i < draft->node_count; i++) {
@@ -340,6 +431,7 @@ size_t draft_bytes(const struct draft *draft, uint8_t *bytes)
 void draft_value(const struct draft *draft, uint32_t *numbers)
 {
     uint32_t *at = numbers;
+    *at++ = draft->edition;
     *at++ = draft->p;
     *at++ = draft->q;
     *at++ = draft->supply_count;
@@ -354,6 +446,8 @@ void draft_value(const struct draft *draft, uint32_t *numbers)
         *at++ = node->parent;
         *at++ = node->wanted.c;
         *at++ = node->wanted.t;
+        *at++ = node->misses.d;
+        *at++ = node->misses.w;
         *at++ = node->served.c;
         *at++ = node->served.t;
     }

@@ -17,16 +17,27 @@ struct drafted_type {
     uint16_t c, t;
 };
 
+struct drafted_misses {
+    uint16_t d, w;
+};
+
 struct drafted_node {
     uint8_t kind, parent;
-    struct drafted_type wanted, served;
+    struct drafted_type wanted;
+    struct drafted_misses misses;
+    struct drafted_type served;
     uint8_t name_length;
     uint8_t name[32];
 };
 
+/* D and W of a node of edition 1. */
+#define NO_MISSES {0, 1}
+
 /* A plan before it is written as bytes or as numbers. */
 struct draft {
+    uint8_t edition;
     uint32_t p, q;
+    uint8_t spare[8]; /* the second record of the tick, in edition 2 */
     uint8_t supply_count;
     struct drafted_type supplies[8];
     uint8_t node_count;
@@ -40,7 +51,7 @@ struct drafted_type draft_own_type(const struct draft *draft, uint8_t parent);
 int draft_is_whole(struct drafted_type own);
 int draft_is_odd(const struct draft *draft, uint32_t i);
 
-/* A plan with at most so many nodes that breaks no rule. */
+/* A plan with at most so many nodes that breaks no rule, of either edition. */
 void draft_sound(struct draft *draft, uint32_t most_nodes);
 
 /* Parts of a plan: a P or a Q; the shortest period among the children of such a parent; what a node of this kind may want of its served type; the most that a
@@ -51,12 +62,22 @@ struct drafted_type draft_wanted(struct drafted_type served, uint8_t kind);
 uint16_t draft_most_wanted(struct drafted_type served, uint8_t kind, uint16_t t);
 void draft_name(struct draft *draft, uint32_t i);
 
+/* Gives a node whose types are drafted its D and W: none in edition 1; in edition 2 half of the aligned leaves become soft, and want another type then. */
+void draft_misses(uint8_t edition, struct drafted_node *node);
+
+/* Whether a node is a soft leaf, and what makes one: a type whose period divides the served one, or is a multiple of it, and of which some windows can mostly be
+ * missed; and the most that a stretch of w of its windows can lose. */
+int draft_is_soft(const struct drafted_node *node);
+struct drafted_type draft_soft_wanted(struct drafted_type served);
+uint16_t draft_most_lost(struct drafted_type served, struct drafted_type wanted, uint16_t w);
+uint16_t draft_windows(void);
+
 /* One change in what the plan says. The result may still be sound. */
 void draft_damage(struct draft *draft);
 
 enum { MOST_BYTES = 4096 };
 
-/* The plan's bytes, of which there are at most 2,796, and its value. */
+/* The plan's bytes, of which there are at most 3,060, and its value. */
 size_t draft_bytes(const struct draft *draft, uint8_t *bytes);
 void draft_value(const struct draft *draft, uint32_t *numbers);
 

@@ -5,13 +5,15 @@
 
 /* ---- plan values */
 
-enum { AT_SUPPLY_COUNT = 2, AT_SUPPLIES = 3, AT_NODE_COUNT = 19, AT_NODES = 20 };
-
 /* One more than the greatest number that the field at this place of a plan value can hold; the place is that of a supply or of a node. */
 static uint32_t bound_of(uint32_t at)
 {
-    if (at < AT_NODES) return 65536;
-    return (at - AT_NODES) % 6 == 0 ? 3 : (at - AT_NODES) % 6 == 1 ? 256 : 65536;
+    if (at < METTULOS_PLAN_NODE(0)) return 65536;
+    switch ((at - METTULOS_PLAN_NODE(0)) % (METTULOS_PLAN_NODE(1) - METTULOS_PLAN_NODE(0))) {
+    case METTULOS_NODE_KIND: return 3;
+    case METTULOS_NODE_PARENT: return 256;
+    default: return 65536;
+    }
 }
 
 int value_of(const struct draft *draft, uint32_t *plan)
@@ -19,8 +21,9 @@ int value_of(const struct draft *draft, uint32_t *plan)
     uint32_t filled = 0;
     draft_value(draft, plan);
     if (chance(50)) return 0;
-    for (uint32_t at = AT_SUPPLIES + 2 * plan[AT_SUPPLY_COUNT]; at < AT_NODE_COUNT; at++) filled |= plan[at] = (uint32_t)chance_below(bound_of(at));
-    for (uint32_t at = AT_NODES + 6 * plan[AT_NODE_COUNT]; at < METTULOS_PLAN; at++) filled |= plan[at] = (uint32_t)chance_below(bound_of(at));
+    uint32_t supplies = METTULOS_PLAN_SUPPLY(plan[METTULOS_PLAN_SUPPLIES]), nodes = METTULOS_PLAN_NODE(plan[METTULOS_PLAN_NODES]);
+    for (uint32_t at = supplies; at < METTULOS_PLAN_NODES; at++) filled |= plan[at] = (uint32_t)chance_below(bound_of(at));
+    for (uint32_t at = nodes; at < METTULOS_PLAN; at++) filled |= plan[at] = (uint32_t)chance_below(bound_of(at));
     return filled != 0;
 }
 
@@ -33,17 +36,18 @@ int sound_value(uint32_t *plan, uint32_t most_nodes)
 
 int break_unused(uint32_t *plan)
 {
-    uint32_t supplies = AT_SUPPLIES + 2 * plan[AT_SUPPLY_COUNT], nodes = AT_NODES + 6 * plan[AT_NODE_COUNT];
-    int in_supplies = supplies < AT_NODE_COUNT && (nodes == METTULOS_PLAN || chance(30));
+    uint32_t supplies = METTULOS_PLAN_SUPPLY(plan[METTULOS_PLAN_SUPPLIES]), nodes = METTULOS_PLAN_NODE(plan[METTULOS_PLAN_NODES]);
+    int in_supplies = supplies < METTULOS_PLAN_NODES && (nodes == METTULOS_PLAN || chance(30));
     if (!in_supplies && nodes == METTULOS_PLAN) return 0;
-    uint32_t at = in_supplies ? supplies + (uint32_t)chance_below(AT_NODE_COUNT - supplies) : nodes + (uint32_t)chance_below(METTULOS_PLAN - nodes);
+    uint32_t first = in_supplies ? supplies : nodes, end = in_supplies ? METTULOS_PLAN_NODES : METTULOS_PLAN;
+    uint32_t at = first + (uint32_t)chance_below(end - first);
     plan[at] = chance(60) ? bound_of(at) : chance(50) ? 0xFFFFFFFFu : bound_of(at) + (uint32_t)chance_below(100000);
     return 1;
 }
 
 uint32_t odd_value_number(uint32_t number)
 {
-    static const uint32_t edges[] = {0, 1, 2, 3, 127, 128, 255, 256, 4096, 4097, 65535, 65536, 1000000, 1000001, 0xFFFFFFFFu};
+    static const uint32_t edges[] = {0, 1, 2, 3, 127, 128, 255, 256, 1024, 1025, 4096, 4097, 65535, 65536, 1000000, 1000001, 0xFFFFFFFFu};
     switch (chance_below(4)) {
     case 0: return number + 1;
     case 1: return number - 1;
@@ -64,12 +68,17 @@ static uint64_t odd_clock(void)
     }
 }
 
+static int is_host(const uint32_t *plan, uint32_t i)
+{
+    return mettulos_node(plan, i)[METTULOS_NODE_KIND] == METTULOS_HOST;
+}
+
 /* The host that a node hangs under, or NO_HOST. */
 enum { NO_HOST = 64 };
 
 static uint32_t host_of(const uint32_t *plan, uint32_t i)
 {
-    uint32_t parent = plan[AT_NODES + 6 * i + 1];
+    uint32_t parent = mettulos_node(plan, i)[METTULOS_NODE_PARENT];
     return parent >= 128 ? parent - 128 : NO_HOST;
 }
 
@@ -78,8 +87,8 @@ void odd_state(const uint32_t *plan, uint64_t *state)
     uint64_t unused = chance(50) ? 65536 : 1, spent = chance(30) ? chance_bits() & chance_bits() : 0; /* the hosts whose children have nothing left, as bits */
     state[0] = odd_clock();
     for (uint32_t i = 0; i < 64; i++) {
-        uint32_t served = plan[AT_NODES + 6 * i + 4];
-        if (i >= plan[AT_NODE_COUNT]) state[1 + i] = chance_below(unused);
+        uint32_t served = mettulos_node(plan, i)[METTULOS_NODE_SERVED_C];
+        if (i >= plan[METTULOS_PLAN_NODES]) state[1 + i] = chance_below(unused);
         else if (host_of(plan, i) != NO_HOST && (spent >> host_of(plan, i) & 1) == 1) state[1 + i] = 0;
         else state[1 + i] = chance(50) ? served : chance_below(served + 1u);
     }
@@ -143,11 +152,11 @@ static enum density decline_density(void)
 static void decline_below_hosts(struct inputs *inputs, const uint32_t *plan)
 {
     uint64_t below[NO_HOST + 1] = {0}, declining = 0; /* below each host its leaves */
-    for (uint32_t i = plan[AT_NODE_COUNT]; i-- > 0;) below[host_of(plan, i)] |= plan[AT_NODES + 6 * i] == 2 ? below[i] : (uint64_t)1 << i;
+    for (uint32_t i = plan[METTULOS_PLAN_NODES]; i-- > 0;) below[host_of(plan, i)] |= is_host(plan, i) ? below[i] : (uint64_t)1 << i;
     for (size_t k = 0; k < inputs->slots + 8; k++) {
         if (k == 0 || chance_below(8) == 0) {
             declining = 0;
-            for (uint64_t hosts = 1 + chance_below(6); hosts > 0; hosts--) declining |= below[chance_below(plan[AT_NODE_COUNT])];
+            for (uint64_t hosts = 1 + chance_below(6); hosts > 0; hosts--) declining |= below[chance_below(plan[METTULOS_PLAN_NODES])];
         }
         inputs->declines[k] |= declining;
     }
@@ -157,8 +166,8 @@ void inputs_by_chance(struct inputs *inputs, const uint32_t *plan, size_t slots)
 {
     enum density supplied = supply_density(), declined = decline_density();
     enum density idle_bits = (enum density)(2 * chance_below(3)); /* of those that name nothing */
-    uint64_t cores = ((uint64_t)1 << plan[AT_SUPPLY_COUNT]) - 1, leaves = 0;
-    for (uint32_t i = 0; i < plan[AT_NODE_COUNT]; i++) leaves |= (uint64_t)(plan[AT_NODES + 6 * i] != 2) << i;
+    uint64_t cores = ((uint64_t)1 << plan[METTULOS_PLAN_SUPPLIES]) - 1, leaves = 0;
+    for (uint32_t i = 0; i < plan[METTULOS_PLAN_NODES]; i++) leaves |= (uint64_t)!is_host(plan, i) << i;
     inputs->slots = slots;
     for (size_t k = 0; k < slots + 8; k++) {
         if (chance_below(200) == 0) supplied = supply_density();
@@ -196,7 +205,7 @@ void inputs_in_keeping(struct inputs *inputs, const uint32_t *plan, size_t slots
     uint64_t never = bits_of((enum density)chance_below(5));
     inputs_by_chance(inputs, plan, slots);
     for (size_t k = 0; k < slots + 8; k++) inputs->declines[k] &= ~never;
-    for (uint32_t core = 0; core < plan[AT_SUPPLY_COUNT]; core++) {
-        supply_in_keeping(inputs, core, plan[AT_SUPPLIES + 2 * core], plan[AT_SUPPLIES + 2 * core + 1]);
+    for (uint32_t core = 0; core < plan[METTULOS_PLAN_SUPPLIES]; core++) {
+        supply_in_keeping(inputs, core, mettulos_supply(plan, core)[METTULOS_SUPPLY_C], mettulos_supply(plan, core)[METTULOS_SUPPLY_T]);
     }
 }

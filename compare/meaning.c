@@ -1,7 +1,9 @@
 /* Allocations slot by slot. */
 #include "meaning.h"
 #include "seen.h"
+#include "told.h"
 
+#include "../include/mettulos.h"
 #include "../model/model.h"
 
 #include <stdio.h>
@@ -112,6 +114,114 @@ void meaning_of_small_pairs(void)
                     }
                 }
             }
+        }
+    }
+}
+
+/* ---- misses */
+
+enum { MOST_T = 12, UNREACHED = -1 };
+
+/* What an allocation that honours the served type has missed so far, at most, by the ones that it has had in its served period and in its wanted window. */
+struct missed {
+    int most[MOST_T + 1][MOST_T + 1];
+};
+
+static void forget(struct missed *missed)
+{
+    for (int ones = 0; ones <= MOST_T; ones++) {
+        for (int of_window = 0; of_window <= MOST_T; of_window++) missed->most[ones][of_window] = UNREACHED;
+    }
+}
+
+static void reach(struct missed *missed, uint32_t ones, uint32_t of_window, int count)
+{
+    if (count > missed->most[ones][of_window]) missed->most[ones][of_window] = count;
+}
+
+/* The slot is 0 or 1 in each allocation. One that ends its served period with too few ones does not honour the type; a window that ends with too few misses. */
+static void take_slot(const struct missed *before, struct missed *after, const struct drafted_node *leaf, int ends_period, int inside, int ends_window)
+{
+    forget(after);
+    for (uint32_t ones = 0; ones < leaf->served.t; ones++) {
+        for (uint32_t of_window = 0; of_window < leaf->wanted.t; of_window++) {
+            for (uint32_t bit = 0; bit <= 1 && before->most[ones][of_window] != UNREACHED; bit++) {
+                uint32_t in_period = ones + bit, in_window = inside ? of_window + bit : 0;
+                if (ends_period && in_period < leaf->served.c) continue;
+                int misses = inside && ends_window && in_window < leaf->wanted.c;
+                reach(after, ends_period ? 0 : in_period, ends_window ? 0 : in_window, before->most[ones][of_window] + misses);
+            }
+        }
+    }
+}
+
+/* The most windows that an allocation which honours the served type misses among those of the stretch from `start` on, by a search over all of them, from the
+ * served period in which the stretch starts to the one in which it ends. */
+static int missed_by_search(const struct drafted_node *leaf, uint32_t start)
+{
+    struct missed now, next;
+    uint32_t t = leaf->served.t, wanted_t = leaf->wanted.t, end = start + leaf->misses.w * wanted_t, last = (end + t - 1) / t * t;
+    forget(&now);
+    reach(&now, 0, 0, 0);
+    for (uint32_t slot = start - start % t; slot < last; slot++) {
+        take_slot(&now, &next, leaf, (slot + 1) % t == 0, start <= slot && slot < end, (slot + 1) % wanted_t == 0);
+        now = next;
+    }
+    return now.most[0][0];
+}
+
+/* The most of any stretch. From the first one on that starts with a served period, as stretch 0 does, they are as those before. */
+static int most_missed(const struct drafted_node *leaf)
+{
+    int most = 0;
+    uint32_t start = 0, length = leaf->misses.w * (uint32_t)leaf->wanted.t;
+    do {
+        int missed = missed_by_search(leaf, start);
+        if (missed > most) most = missed;
+        start += length;
+    } while (start % leaf->served.t != 0);
+    return most;
+}
+
+/* With each D: refused by 20 where the leaf is soft and neither period divides the other, by 11 where more can be missed, and otherwise not. */
+static void hold_misses(struct drafted_type served, struct drafted_type wanted, uint16_t w)
+{
+    static uint8_t bytes[MOST_BYTES];
+    uint32_t plan[METTULOS_PLAN];
+    struct told told = {{1, 1}, 1, {{0, 0, wanted, {0, w}, served, 0, {0}}}, 0, 0};
+    struct draft draft;
+    int is_so_made = served.t % wanted.t == 0 || wanted.t % served.t == 0, most = most_missed(&told.nodes[0]);
+    for (uint16_t d = 0; d <= w; d++) {
+        told.nodes[0].misses.d = d;
+        draft_told(&draft, &told);
+        draft.edition = 2;
+        uint32_t number = d > 0 && !is_so_made ? 20 : most > d ? 11 : 0;
+        if (METTULOS_NUMBER(check_read(bytes, draft_bytes(&draft, bytes), plan, METTULOS_PLAN)) == number) continue;
+        printf("NOT AS THE MEANING HAS IT: served (%u,%u) for (%u,%u), of which %u in %u may miss and %d can, is not answered by %u\n", served.c, served.t,
+               wanted.c, wanted.t, d, w, most, (unsigned)number);
+        fflush(stdout);
+        exit(1);
+    }
+}
+
+static void hold_periods(uint16_t t, uint16_t wanted_t, uint16_t most_w)
+{
+    for (uint16_t c = 0; c <= t; c++) {
+        for (uint16_t wanted_c = 0; wanted_c <= wanted_t; wanted_c++) {
+            for (uint16_t w = 1; w <= most_w; w++) hold_misses((struct drafted_type){c, t}, (struct drafted_type){wanted_c, wanted_t}, w);
+        }
+    }
+}
+
+void meaning_of_small_misses(void)
+{
+    static const uint16_t longer[] = {8, 9, 10, MOST_T};
+    for (uint16_t t = 1; t <= 6; t++) {
+        for (uint16_t wanted_t = 1; wanted_t <= 6; wanted_t++) hold_periods(t, wanted_t, 5);
+    }
+    for (size_t k = 0; k < sizeof longer / sizeof *longer; k++) {
+        for (uint16_t wanted_t = 1; wanted_t <= longer[k]; wanted_t++) {
+            if (longer[k] % wanted_t == 0) hold_periods(longer[k], wanted_t, 7);
         }
     }
 }

@@ -101,6 +101,7 @@ static void deep_plans_broken(uint64_t rounds)
         for (uint32_t depth = 1 + (uint32_t)(round % 4); depth <= 8; depth += 4) {
             break_plan(9, depth);
             for (uint32_t rule = 11; rule <= 14; rule++) break_plan(rule, depth);
+            break_plan(20, depth);
         }
     }
 }

@@ -17,7 +17,7 @@ uint64_t check_file(const uint8_t *bytes, size_t len)
 {
     uint32_t plan[METTULOS_PLAN];
     uint64_t refused = check_read(bytes, len, plan, METTULOS_PLAN);
-    size_t nodes = plan[19];
+    size_t nodes = plan[METTULOS_PLAN_NODES];
     check_name(bytes, len, 0, 2);
     check_name(bytes, len, nodes, 2);
     check_name(bytes, len, SIZE_MAX - chance_below(3), 2);
@@ -38,25 +38,25 @@ static void sound_files(uint64_t rounds)
     }
 }
 
-/* The plan with the most bytes there can be, with names that differ in their last byte, whole, cut short and with a byte too many. */
-static void longest_file(void)
+/* The plan of an edition with the most bytes there can be, with names that differ in their last byte, whole, cut short and with a byte too many. */
+static void longest_file(uint8_t edition, size_t longest)
 {
     uint8_t bytes[MOST_BYTES];
     struct draft draft;
-    seen_kind("the longest plan");
     memset(&draft, 0, sizeof draft);
+    draft.edition = edition;
     draft.p = draft.q = 1000000;
     draft.supply_count = 8;
     draft.node_count = 64;
     for (uint8_t i = 0; i < 8; i++) draft.supplies[i] = (struct drafted_type){4096, 4096};
     for (uint8_t i = 0; i < 64; i++) {
         struct drafted_type type = {512, 4096};
-        draft.nodes[i] = (struct drafted_node){0, i % 8, type, type, 32, {0}};
+        draft.nodes[i] = (struct drafted_node){0, i % 8, type, NO_MISSES, type, 32, {0}};
         memset(draft.nodes[i].name, '!', 31);
         draft.nodes[i].name[31] = (uint8_t)(33 + i);
     }
     size_t len = draft_bytes(&draft, bytes);
-    if (len != 2796 || check_file(bytes, len) != 0) check_fail("the longest plan is not taken");
+    if (len != longest || check_file(bytes, len) != 0) check_fail("the longest plan is not taken");
     bytes[len] = 0;
     check_file(bytes, len + 1);
     check_file(bytes, len - 1);
@@ -71,10 +71,10 @@ static void deepest_files(void)
     struct draft draft;
     seen_kind("plans that are as deep as can be, and deeper");
     memset(&draft, 0, sizeof draft);
-    draft.p = draft.q = draft.supply_count = 1;
+    draft.edition = draft.p = draft.q = draft.supply_count = 1;
     draft.supplies[0] = (struct drafted_type){1, 1};
     for (uint8_t i = 0; i < 12; i++) {
-        draft.nodes[i] = (struct drafted_node){2, i == 0 ? 0 : (uint8_t)(127 + i), {1, 1}, {1, 1}, 1, {(uint8_t)('a' + i)}};
+        draft.nodes[i] = (struct drafted_node){2, i == 0 ? 0 : (uint8_t)(127 + i), {1, 1}, NO_MISSES, {1, 1}, 1, {(uint8_t)('a' + i)}};
         draft.node_count = i + 1;
         uint64_t refused = check_file(bytes, draft_bytes(&draft, bytes));
         if (METTULOS_NUMBER(refused) != (i < 8 ? 0 : 7)) check_fail("a plan is too deep too soon or too late");
@@ -130,7 +130,7 @@ static void damaged_files(uint64_t rounds)
     }
     seen_kind("bytes that are no plan");
     for (uint64_t round = 0; round < rounds / 4; round++) {
-        size_t len = chance_below(chance(50) ? 20 : 3000);
+        size_t len = chance_below(chance(50) ? 20 : 3100);
         for (size_t i = 0; i < len; i++) bytes[i] = (uint8_t)(chance(50) ? chance_below(4) : chance_bits());
         check_file(bytes, len);
     }
@@ -139,7 +139,9 @@ static void damaged_files(uint64_t rounds)
 void cases_of_files(uint64_t rounds)
 {
     sound_files(rounds);
-    longest_file();
+    seen_kind("the longest plans of both editions");
+    longest_file(1, 2796);
+    longest_file(2, METTULOS_LONGEST_PLAN);
     deepest_files();
     files_changed_everywhere(1 + rounds / 250);
     damaged_files(4 * rounds);

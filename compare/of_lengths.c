@@ -77,7 +77,8 @@ static void empty_slices(uint64_t rounds)
         odd_state(plan, state);
         inputs_by_chance(&inputs, plan, slots);
         if (chance(50)) all = 0;
-        check_run(any_setting(), plan, METTULOS_PLAN, state, METTULOS_STATE, inputs.supplies, all, inputs.declines, all, answers, or_none(all * plan[2]));
+        check_run(any_setting(), plan, METTULOS_PLAN, state, METTULOS_STATE, inputs.supplies, all, inputs.declines, all, answers,
+                  or_none(all * plan[METTULOS_PLAN_SUPPLIES]));
         check_run(any_setting(), plan, METTULOS_PLAN, state, METTULOS_STATE, inputs.supplies, or_none(slots), inputs.declines, or_none(slots), answers,
                   or_none(8 * slots));
         check_run(any_setting(), plan, or_none(METTULOS_PLAN), state, or_none(METTULOS_STATE), inputs.supplies, or_none(slots), inputs.declines,

@@ -33,7 +33,7 @@ static void runs(uint64_t rounds)
             if (k == 0 && chance(70)) inputs_in_keeping(&inputs, plan, slots);
             else inputs_by_chance(&inputs, plan, slots);
             inputs_settings(&inputs, chance(50) ? ALL_OFF : ALL_ON);
-            if (run(plan, state, &inputs, slots * plan[2] + chance_below(3)) != 0) check_fail("a run that should go through is refused");
+            if (run(plan, state, &inputs, slots * plan[METTULOS_PLAN_SUPPLIES] + chance_below(3)) != 0) check_fail("a run that should go through is refused");
             if (k == 0) promised(&(struct given){plan, slots, inputs.settings, inputs.supplies, inputs.declines, answers});
         }
     }
@@ -42,7 +42,7 @@ static void runs(uint64_t rounds)
         sound_value(plan, chance(80) ? 12 : 64);
         odd_state(plan, state);
         inputs_by_chance(&inputs, plan, chance_below(100));
-        run(plan, state, &inputs, inputs.slots * plan[2]);
+        run(plan, state, &inputs, inputs.slots * plan[METTULOS_PLAN_SUPPLIES]);
     }
 }
 
@@ -60,15 +60,15 @@ static void steps_against_runs(uint64_t rounds)
         else odd_state(plan, by_run);
         memcpy(by_steps, by_run, sizeof by_run);
         inputs_by_chance(&inputs, plan, chance_below(41));
-        if (run(plan, by_run, &inputs, inputs.slots * plan[2]) != 0) inputs.slots = (size_t)(LAST - by_run[0]);
+        if (run(plan, by_run, &inputs, inputs.slots * plan[METTULOS_PLAN_SUPPLIES]) != 0) inputs.slots = (size_t)(LAST - by_run[0]);
         for (size_t k = 0; k < inputs.slots; k++) {
             uint64_t refused = check_step(inputs.settings[0], plan, METTULOS_PLAN, by_steps, METTULOS_STATE, inputs.supplies[k], inputs.declines[k], grants, 8);
             if (refused != 0) check_fail("a step is refused that a run makes");
-            memcpy(of_steps + k * plan[2], grants, plan[2]);
+            memcpy(of_steps + k * plan[METTULOS_PLAN_SUPPLIES], grants, plan[METTULOS_PLAN_SUPPLIES]);
         }
-        if (by_run[0] != by_steps[0]) run(plan, by_run, &inputs, inputs.slots * plan[2]);
+        if (by_run[0] != by_steps[0]) run(plan, by_run, &inputs, inputs.slots * plan[METTULOS_PLAN_SUPPLIES]);
         check_bytes("the state after a run is not the state after its steps", by_run, by_steps, sizeof by_run);
-        check_bytes("the answers of a run are not those of its steps", answers, of_steps, inputs.slots * plan[2]);
+        check_bytes("the answers of a run are not those of its steps", answers, of_steps, inputs.slots * plan[METTULOS_PLAN_SUPPLIES]);
         if (by_steps[0] == LAST) check_step(inputs.settings[0], plan, METTULOS_PLAN, by_steps, METTULOS_STATE, 255, 0, grants, 8);
     }
 }
@@ -105,8 +105,8 @@ static void refused_runs(uint64_t rounds)
     for (uint64_t round = 0; round < rounds; round++) {
         sound_value(plan, 12);
         odd_state(plan, state);
-        uint32_t nodes = plan[19]; /* as many as there are, whatever is done to the plan below */
-        size_t slots = chance_below(30), declines, room = slots * plan[2];
+        uint32_t nodes = plan[METTULOS_PLAN_NODES]; /* as many as there are, whatever is done to the plan below */
+        size_t slots = chance_below(30), declines, room = slots * plan[METTULOS_PLAN_SUPPLIES];
         inputs_by_chance(&inputs, plan, slots);
         uint8_t setting = inputs.settings[0];
         declines = slots;

@@ -38,7 +38,7 @@ static void step(uint64_t *state, size_t at)
     uint8_t grants[8];
     if (check_step(inputs.settings[at], plan, METTULOS_PLAN, state, METTULOS_STATE, inputs.supplies[at], inputs.declines[at], grants, 8) != 0)
         check_fail("a step that should go through is refused");
-    memcpy(in_pieces + at * plan[2], grants, plan[2]);
+    memcpy(in_pieces + at * plan[METTULOS_PLAN_SUPPLIES], grants, plan[METTULOS_PLAN_SUPPLIES]);
 }
 
 /* All slots of the inputs, each with its setting, a run and some steps in turn. */
@@ -48,7 +48,8 @@ static void go_in_turns(uint64_t *state)
     int stepped = chance(50);
     while (at < inputs.slots) {
         size_t left = inputs.slots - at, slots = inputs_stretch(&inputs, at, chance_below(left < 16 || chance(50) ? left + 1 : left / 8));
-        if (run(state, at, slots, in_pieces + at * plan[2], slots * plan[2]) != 0) check_fail("a run that should go through is refused");
+        uint64_t refused = run(state, at, slots, in_pieces + at * plan[METTULOS_PLAN_SUPPLIES], slots * plan[METTULOS_PLAN_SUPPLIES]);
+        if (refused != 0) check_fail("a run that should go through is refused");
         if (at > 0 && slots > 0 && stepped) seen(RUN_AFTER_STEP);
         at += slots;
         stepped = 0;
@@ -71,7 +72,7 @@ static size_t slots_of_round(uint64_t round)
 static int is_fresh(const uint64_t *state)
 {
     int full = 1;
-    for (uint32_t i = 0; i < plan[19]; i++) full = full && state[1 + i] == plan[20 + 6 * i + 4];
+    for (uint32_t i = 0; i < plan[METTULOS_PLAN_NODES]; i++) full = full && state[1 + i] == mettulos_node(plan, i)[METTULOS_NODE_SERVED_C];
     return full && state[0] == 0;
 }
 
@@ -99,7 +100,7 @@ static void turns(uint64_t rounds)
         go_in_turns(by_turns);
         course_run(plan, by_run, &inputs, slots, whole);
         check_bytes("the state after a run is not the state after its pieces", by_run, by_turns, sizeof by_run);
-        check_bytes("the answers of a run are not those of its pieces", whole, in_pieces, slots * plan[2]);
+        check_bytes("the answers of a run are not those of its pieces", whole, in_pieces, slots * plan[METTULOS_PLAN_SUPPLIES]);
         seen(PIECES_AS_A_WHOLE);
         hold_fresh(start, whole);
         if (course == MIXED) continue;
@@ -111,13 +112,20 @@ static void turns(uint64_t rounds)
     }
 }
 
-/* Twice the longest window that a leaf wants, but no more than a hundred slots. */
+/* What is promised to node i in one piece: a window, or a stretch of a soft leaf; 0 to a host. */
+static uint32_t slots_promised(uint32_t i)
+{
+    const uint32_t *node = mettulos_node(plan, i);
+    if (node[METTULOS_NODE_KIND] == METTULOS_HOST) return 0;
+    return node[METTULOS_NODE_WANTED_T] * (node[METTULOS_NODE_D] > 0 ? node[METTULOS_NODE_W] : 1);
+}
+
+/* Twice the longest window or stretch of a leaf, but no more than a hundred slots. */
 static size_t slots_of_windows(void)
 {
     uint32_t longest = 1;
-    for (uint32_t i = 0; i < plan[19]; i++) {
-        const uint32_t *node = plan + 20 + 6 * i;
-        if (node[0] != 2 && node[3] > longest) longest = node[3];
+    for (uint32_t i = 0; i < plan[METTULOS_PLAN_NODES]; i++) {
+        if (slots_promised(i) > longest) longest = slots_promised(i);
     }
     return longest <= 50 ? 2 * longest : 100;
 }
@@ -157,8 +165,8 @@ static void last_slots(uint64_t rounds)
         deep_plan(state, slots);
         state[0] = LAST - slots;
         inputs_by_chance(&inputs, plan, slots);
-        if (METTULOS_NUMBER(run(state, 0, slots + 1, whole, (slots + 1) * plan[2])) != 15) check_fail("a run goes past 2^40");
-        if (run(state, 0, slots, whole, slots * plan[2]) != 0) check_fail("a run up to 2^40 is refused");
+        if (METTULOS_NUMBER(run(state, 0, slots + 1, whole, (slots + 1) * plan[METTULOS_PLAN_SUPPLIES])) != 15) check_fail("a run goes past 2^40");
+        if (run(state, 0, slots, whole, slots * plan[METTULOS_PLAN_SUPPLIES]) != 0) check_fail("a run up to 2^40 is refused");
         uint64_t of_step = check_step(inputs.settings[0], plan, METTULOS_PLAN, state, METTULOS_STATE, 255, 0, grants, 8);
         if (METTULOS_NUMBER(of_step) != 15) check_fail("a step goes past 2^40");
         if (run(state, 0, 0, whole, 0) != 0) check_fail("a run of nothing at 2^40 is refused");
@@ -175,10 +183,10 @@ static void refused_turns(uint64_t rounds)
         size_t slots = 1 + chance_below(20);
         deep_plan(state, slots);
         inputs_by_chance(&inputs, plan, slots);
-        if (METTULOS_NUMBER(run(state, 0, slots, whole, slots * plan[2] - 1)) != 17) check_fail("a run has too little room and goes on");
-        uint32_t i = chance(20) ? plan[19] - 1 : (uint32_t)chance_below(plan[19]);
-        state[1 + i] = plan[20 + 6 * i + 4] + 1 + (chance(70) ? 0 : chance_bits() >> 32);
-        uint64_t of_run = run(state, 0, slots, whole, slots * plan[2]);
+        if (METTULOS_NUMBER(run(state, 0, slots, whole, slots * plan[METTULOS_PLAN_SUPPLIES] - 1)) != 17) check_fail("a run has too little room and goes on");
+        uint32_t i = chance(20) ? plan[METTULOS_PLAN_NODES] - 1 : (uint32_t)chance_below(plan[METTULOS_PLAN_NODES]);
+        state[1 + i] = mettulos_node(plan, i)[METTULOS_NODE_SERVED_C] + 1 + (chance(70) ? 0 : chance_bits() >> 32);
+        uint64_t of_run = run(state, 0, slots, whole, slots * plan[METTULOS_PLAN_SUPPLIES]);
         uint64_t of_step = check_step(inputs.settings[0], plan, METTULOS_PLAN, state, METTULOS_STATE, 255, 0, grants, 8);
         if (METTULOS_NUMBER(of_run) != 16 || of_step != of_run) check_fail("a node has more left than it is served, and a slot is given");
     }

@@ -15,7 +15,7 @@ static void each_number_changed(const uint32_t *plan)
     uint64_t state[METTULOS_STATE];
     memcpy(changed, plan, sizeof changed);
     for (uint32_t at = 0; at < METTULOS_PLAN; at++) {
-        static const uint32_t edges[] = {0, 1, 2, 3, 64, 65, 127, 128, 255, 256, 65535, 65536, 0xFFFFFFFFu};
+        static const uint32_t edges[] = {0, 1, 2, 3, 64, 65, 127, 128, 255, 256, 1024, 1025, 65535, 65536, 0xFFFFFFFFu};
         for (size_t k = 0; k < sizeof edges / sizeof *edges + 2; k++) {
             changed[at] = k < sizeof edges / sizeof *edges ? edges[k] : k == sizeof edges / sizeof *edges ? plan[at] + 1 : plan[at] - 1;
             check_fresh(changed, METTULOS_PLAN, state, METTULOS_STATE);

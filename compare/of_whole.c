@@ -11,20 +11,6 @@
 static uint8_t bytes[MOST_BYTES];
 static uint32_t plan[METTULOS_PLAN];
 
-/* ---- plans as files and as values */
-
-/* The plan is refused so, or not at all where the number is 0; as a value it is fit or not, accordingly. */
-static void expect(const struct draft *draft, uint32_t number, uint32_t place)
-{
-    uint64_t state[METTULOS_STATE];
-    uint64_t refused = check_read(bytes, draft_bytes(draft, bytes), plan, METTULOS_PLAN);
-    if (METTULOS_NUMBER(refused) != number) check_fail("a plan with a parent that is whole, or nearly so, is not answered by the number that it should be");
-    if (number > 0 && METTULOS_PLACE(refused) != place) check_fail("a plan with a parent that is whole, or nearly so, is refused at another node");
-    value_of(draft, plan);
-    refused = check_fresh(plan, METTULOS_PLAN, state, METTULOS_STATE);
-    if (METTULOS_NUMBER(refused) != (number > 0 ? 16 : 0)) check_fail("a value is fit where the file is refused, or the other way round");
-}
-
 /* ---- plans that are told one by one */
 
 static const struct told told[] = {
@@ -82,7 +68,7 @@ static void plans_told(void)
     seen_kind("plans with whole parents that are told one by one");
     for (size_t k = 0; k < sizeof told / sizeof *told; k++) {
         draft_told(&draft, &told[k]);
-        expect(&draft, told[k].number, told[k].place);
+        check_told(&draft, told[k].number, told[k].place, plan);
         for (int run = 0; run < 5 && told[k].number == 0; run++) check_promised(plan, 100);
     }
     seen_kind("every cut and every single-byte change of a plan with whole parents");
@@ -110,7 +96,7 @@ static void slots_told(void)
     seen_kind("listed slots under whole parents");
     for (size_t k = 0; k < sizeof listed / sizeof *listed; k++) {
         draft_told(&draft, &listed[k].plan);
-        expect(&draft, 0, 0);
+        check_told(&draft, 0, 0, plan);
         for (uint8_t setting = METTULOS_OFF; setting <= METTULOS_ON; setting++) {
             check_fresh(plan, METTULOS_PLAN, state, METTULOS_STATE);
             check_run(setting, plan, METTULOS_PLAN, state, METTULOS_STATE, supplies, 12, declines, 12, answers, 12);
@@ -159,7 +145,7 @@ static void plans_refused(uint64_t rounds)
         for (int change = 0; change < CHANGES; change++) {
             for (int at_host = 0; at_host < 2; at_host++) {
                 uint32_t place = make_refused(&draft, (enum change)change, at_host);
-                expect(&draft, change == SHORTEN || change == EMPTY_ODD ? 12 : 14, place);
+                check_told(&draft, change == SHORTEN || change == EMPTY_ODD ? 12 : 14, place, plan);
                 seen(things[change][at_host]);
             }
         }

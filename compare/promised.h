@@ -16,8 +16,9 @@ struct given {
 };
 
 /* Ends the program unless all is as promised, whatever the settings. A partition has its wanted C in each of its windows among these slots, where its core has
- * had C of T in each of its periods, or can still have them in the last, and it declined in no slot of its served periods that touch the window. And whatever
- * was supplied, neither a partition nor all those below a host have more than the served C in one served period. */
+ * had C of T in each of its periods, or can still have them in the last, and it declined in no slot of its served periods that touch the window. A soft one has
+ * at most D windows without in each of its stretches among these slots, where it declined in no slot of its served periods that touch the stretch. And
+ * whatever was supplied, neither a partition nor all those below a host have more than the served C in one served period. */
 void promised(const struct given *given);
 
 #endif

@@ -48,7 +48,7 @@ static void want_row(const char *what, const uint64_t *counts, int first, int la
 
 /* ---- cases and calls */
 
-enum { REFUSALS = 18, MOST_KINDS = 60, MOST_SLICES = 5 };
+enum { REFUSALS = 21, MOST_KINDS = 80, MOST_SLICES = 5 };
 
 static const char *const call_names[CALLS] = {"decide", "read", "name", "fresh", "step", "run", "start", "minute", "slot"};
 
@@ -56,7 +56,7 @@ static const char *const call_names[CALLS] = {"decide", "read", "name", "fresh",
 #define BIT(n) (1u << (n))
 static const uint32_t answers_of[CALLS] = {
     BIT(0) | BIT(4) | BIT(5) | BIT(17),
-    0x7FFF | BIT(17), /* 0 to 14 */
+    0x7FFF | BIT(17) | BIT(19) | BIT(20), /* 0 to 14 and these */
     BIT(0) | BIT(17),
     BIT(0) | BIT(16) | BIT(17),
     BIT(0) | BIT(5) | BIT(15) | BIT(16) | BIT(17),
@@ -158,18 +158,24 @@ static void want_calls(void)
 
 /* ---- plans */
 
-enum { AT_SUPPLIES = 3, AT_NODE_COUNT = 19, AT_NODES = 20, HOST = 2, IDLE = 254, NOT_SUPPLIED = 255, LONG_RUN = 1000 };
+enum { LONG_RUN = 1000 };
 
 static uint64_t plans_by_cores[9], plans_by_depth[9], plans_of_64;
 static uint64_t plans_odd[2];       /* with a child of an odd period under a supply, and under a host */
 static uint64_t plans_whole[9];     /* with a whole host that has children, by its depth */
 static uint64_t plans_whole_beside; /* with one that has siblings too */
-static uint64_t broken[4][9];
+static uint64_t plans_by_edition[3];
+static uint64_t broken[5][9]; /* rules 11 to 14, and 20 */
 static uint64_t things[THINGS];
 
-static const uint32_t *node_of(const uint32_t *plan, uint32_t i)
+static uint32_t kind_of(const uint32_t *plan, uint32_t i)
 {
-    return plan + AT_NODES + 6 * i;
+    return mettulos_node(plan, i)[METTULOS_NODE_KIND];
+}
+
+static uint32_t parent_of(const uint32_t *plan, uint32_t i)
+{
+    return mettulos_node(plan, i)[METTULOS_NODE_PARENT];
 }
 
 /* Of each node of an accepted plan the depth, the supply that it hangs under, whether its served period is odd, which is no multiple of its parent's, and
@@ -180,12 +186,13 @@ struct places {
 
 static void find_places(const uint32_t *plan, struct places *places)
 {
-    for (uint32_t i = 0; i < plan[AT_NODE_COUNT]; i++) {
-        uint32_t parent = node_of(plan, i)[1], host = parent - 128;
+    for (uint32_t i = 0; i < plan[METTULOS_PLAN_NODES]; i++) {
+        uint32_t parent = parent_of(plan, i), host = parent - 128;
         int hosted = parent >= 128;
         places->depth[i] = hosted ? (uint8_t)(places->depth[host] + 1) : 1;
         places->supply[i] = hosted ? places->supply[host] : (uint8_t)parent;
-        places->odd[i] = node_of(plan, i)[5] % (hosted ? node_of(plan, host)[3] : plan[AT_SUPPLIES + 2 * parent + 1]) != 0;
+        uint32_t own_t = hosted ? mettulos_node(plan, host)[METTULOS_NODE_WANTED_T] : mettulos_supply(plan, parent)[METTULOS_SUPPLY_T];
+        places->odd[i] = mettulos_node(plan, i)[METTULOS_NODE_SERVED_T] % own_t != 0;
         places->below_odd[i] = hosted && (places->odd[host] || places->below_odd[host]);
     }
 }
@@ -194,17 +201,62 @@ static void find_places(const uint32_t *plan, struct places *places)
 static void see_whole(const uint32_t *plan, const struct places *places)
 {
     uint32_t children[256] = {0}, depths = 0, odd = 0, beside = 0; /* depths, and the sorts of parent, as bits */
-    for (uint32_t i = 0; i < plan[AT_NODE_COUNT]; i++) children[node_of(plan, i)[1]]++;
-    for (uint32_t i = 0; i < plan[AT_NODE_COUNT]; i++) {
-        const uint32_t *node = node_of(plan, i);
-        if (places->odd[i]) odd |= BIT(node[1] >= 128);
-        if (node[0] != HOST || node[2] != node[3] || children[128 + i] == 0) continue;
+    for (uint32_t i = 0; i < plan[METTULOS_PLAN_NODES]; i++) children[parent_of(plan, i)]++;
+    for (uint32_t i = 0; i < plan[METTULOS_PLAN_NODES]; i++) {
+        const uint32_t *node = mettulos_node(plan, i);
+        if (places->odd[i]) odd |= BIT(parent_of(plan, i) >= 128);
+        if (kind_of(plan, i) != METTULOS_HOST || node[METTULOS_NODE_WANTED_C] != node[METTULOS_NODE_WANTED_T] || children[128 + i] == 0) continue;
         depths |= BIT(places->depth[i]);
-        beside |= children[node[1]] > 1;
+        beside |= children[parent_of(plan, i)] > 1;
     }
     for (uint32_t depth = 1; depth <= 7; depth++) plans_whole[depth] += depths >> depth & 1;
     for (uint32_t k = 0; k < 2; k++) plans_odd[k] += odd >> k & 1;
     plans_whole_beside += beside;
+}
+
+/* Soft leaves at the edges of what they may be. */
+enum edge {
+    ONE_WINDOW,      /* W is 1 */
+    MOST_WINDOWS,    /* or 1,024 */
+    ALL_MAY_MISS,    /* D is W */
+    ONE_MAY_MISS,    /* or 1, of more windows */
+    SAME_PERIODS,    /* T is T' */
+    SHORTER_WINDOWS, /* T is K T', with K above 1 */
+    LONGER_WINDOWS,  /* T divides T' and is shorter */
+    NOTHING_WANTED,  /* C' is 0 */
+    ALL_CAN_MISS,    /* u is K, above 1: every window of a served period can miss */
+    NO_MULTIPLE,     /* W is no multiple of K, which is above 1 */
+    EDGES
+};
+
+static const char *const edge_names[EDGES] = {"W = 1", "W = 1,024", "D = W",  "D = 1 < W",           "T = T'",
+                                              "T' divides T", "T divides T'", "C' = 0", "u = K, which is above 1", "W no multiple of K"};
+
+static uint64_t plans_soft[EDGES];
+
+/* The edges at which the leaf is, as bits. */
+static uint32_t edges_of(const uint32_t *node)
+{
+    uint32_t c = node[METTULOS_NODE_SERVED_C], t = node[METTULOS_NODE_SERVED_T], wanted_c = node[METTULOS_NODE_WANTED_C], wanted_t = node[METTULOS_NODE_WANTED_T];
+    uint32_t d = node[METTULOS_NODE_D], w = node[METTULOS_NODE_W], k = t / wanted_t, edges = 0;
+    if (w == 1) edges |= BIT(ONE_WINDOW);
+    if (w == 1024) edges |= BIT(MOST_WINDOWS);
+    if (d == w) edges |= BIT(ALL_MAY_MISS);
+    if (d == 1 && w > 1) edges |= BIT(ONE_MAY_MISS);
+    if (wanted_c == 0) edges |= BIT(NOTHING_WANTED);
+    if (k <= 1) return edges | BIT(k == 1 ? SAME_PERIODS : LONGER_WINDOWS);
+    if (wanted_c > 0 && k * (wanted_c - 1) >= c) edges |= BIT(ALL_CAN_MISS);
+    if (w % k != 0) edges |= BIT(NO_MULTIPLE);
+    return edges | BIT(SHORTER_WINDOWS);
+}
+
+static void see_soft(const uint32_t *plan)
+{
+    uint32_t edges = 0;
+    for (uint32_t i = 0; i < plan[METTULOS_PLAN_NODES]; i++) {
+        if (mettulos_node(plan, i)[METTULOS_NODE_D] > 0) edges |= edges_of(mettulos_node(plan, i));
+    }
+    for (uint32_t edge = 0; edge < EDGES; edge++) plans_soft[edge] += edges >> edge & 1;
 }
 
 void seen_plan(const uint32_t *plan)
@@ -212,18 +264,20 @@ void seen_plan(const uint32_t *plan)
     struct places places;
     uint32_t deepest = 0;
     find_places(plan, &places);
-    for (uint32_t i = 0; i < plan[AT_NODE_COUNT]; i++) {
+    for (uint32_t i = 0; i < plan[METTULOS_PLAN_NODES]; i++) {
         if (places.depth[i] > deepest) deepest = places.depth[i];
     }
-    plans_by_cores[plan[2]]++;
+    plans_by_cores[plan[METTULOS_PLAN_SUPPLIES]]++;
     plans_by_depth[deepest]++;
-    plans_of_64 += plan[AT_NODE_COUNT] == 64;
+    plans_of_64 += plan[METTULOS_PLAN_NODES] == 64;
+    plans_by_edition[plan[METTULOS_PLAN_EDITION]]++;
     see_whole(plan, &places);
+    see_soft(plan);
 }
 
 void seen_broken(uint32_t rule, uint32_t depth)
 {
-    broken[rule - 11][depth]++;
+    broken[rule == 20 ? 4 : rule - 11][depth]++;
 }
 
 void seen(enum thing thing)
@@ -237,6 +291,7 @@ static uint64_t slots_given[2], slots_past_half, long_runs, odd_counts_kept; /* 
 static uint64_t granted[9][9];      /* by the number of cores and the depth of the leaf */
 static uint64_t granting[9][9];     /* the calls with such a grant */
 static uint64_t granted_kind[2][9]; /* by the kind of the leaf and its depth */
+static uint64_t granted_soft[9];    /* to a soft leaf, by its depth */
 static uint64_t granted_odd[9];     /* to a leaf of an odd period, or below a host of one, by the leaf's depth */
 static uint64_t granting_odd[9];    /* the calls with a grant to a leaf of an odd period, by its depth */
 static uint64_t granted_core[8], granted_leaf[64], granted_scarce[2];
@@ -247,20 +302,21 @@ static uint64_t idle_without_children;
 /* The answers of some slots, and what stands past the last node. */
 static void see_answers(uint8_t setting, const uint32_t *plan, const struct places *places, const uint64_t *before, size_t slots, const uint8_t *out)
 {
-    uint32_t cores = plan[2], depths = 0, odd = 0; /* bit d where a leaf of depth d, and one of an odd period, was granted something */
+    uint32_t cores = plan[METTULOS_PLAN_SUPPLIES], depths = 0, odd = 0; /* bit d where a leaf of depth d, and one of an odd period, was granted something */
     for (size_t k = 0; k < slots * cores; k++) {
         uint32_t core = (uint32_t)(k % cores), leaf = out[k];
-        if (leaf == IDLE) idle_core[core]++;
-        else if (leaf == NOT_SUPPLIED) missing_core[core]++;
+        if (leaf == METTULOS_IDLE) idle_core[core]++;
+        else if (leaf == METTULOS_NOT_SUPPLIED) missing_core[core]++;
         else {
             depths |= BIT(places->depth[leaf]);
             granted[cores][places->depth[leaf]]++;
-            granted_kind[node_of(plan, leaf)[0] & 1][places->depth[leaf]]++;
+            granted_kind[kind_of(plan, leaf) & 1][places->depth[leaf]]++;
+            granted_soft[places->depth[leaf]] += mettulos_node(plan, leaf)[METTULOS_NODE_D] > 0;
             granted_odd[places->depth[leaf]] += places->odd[leaf] || places->below_odd[leaf];
             if (places->odd[leaf]) odd |= BIT(places->depth[leaf]);
             granted_core[core]++;
             granted_leaf[leaf]++;
-            granted_scarce[plan[AT_SUPPLIES + 2 * core] < plan[AT_SUPPLIES + 2 * core + 1]]++;
+            granted_scarce[mettulos_supply(plan, core)[METTULOS_SUPPLY_C] < mettulos_supply(plan, core)[METTULOS_SUPPLY_T]]++;
         }
     }
     for (uint32_t depth = 1; depth <= 8; depth++) {
@@ -269,7 +325,7 @@ static void see_answers(uint8_t setting, const uint32_t *plan, const struct plac
     }
     slots_given[setting] += slots;
     if (before[0] >= (uint64_t)1 << 39) slots_past_half += slots;
-    for (uint32_t i = plan[AT_NODE_COUNT]; i < 64; i++) {
+    for (uint32_t i = plan[METTULOS_PLAN_NODES]; i < 64; i++) {
         if (before[1 + i] == 0) continue;
         odd_counts_kept++;
         break;
@@ -286,8 +342,8 @@ void seen_run(uint8_t setting, const uint32_t *plan, const uint64_t *before, siz
 
 static int has_children(const uint32_t *plan, uint32_t i)
 {
-    for (uint32_t k = i + 1; k < plan[AT_NODE_COUNT]; k++) {
-        if (node_of(plan, k)[1] == 128 + i) return 1;
+    for (uint32_t k = i + 1; k < plan[METTULOS_PLAN_NODES]; k++) {
+        if (parent_of(plan, k) == 128 + i) return 1;
     }
     return 0;
 }
@@ -295,21 +351,22 @@ static int has_children(const uint32_t *plan, uint32_t i)
 /* Whether the slot took one from what the node had, after any refill. */
 static int was_charged(const uint32_t *plan, const uint64_t *before, const uint64_t *after, uint32_t i)
 {
-    uint64_t left = before[0] % node_of(plan, i)[5] == 0 ? node_of(plan, i)[4] : before[1 + i];
+    const uint32_t *node = mettulos_node(plan, i);
+    uint64_t left = before[0] % node[METTULOS_NODE_SERVED_T] == 0 ? node[METTULOS_NODE_SERVED_C] : before[1 + i];
     return after[1 + i] < left;
 }
 
 static void see_idle(const uint32_t *plan, const struct places *places, const uint64_t *before, const uint64_t *after, const uint8_t *grants)
 {
     uint32_t last[8], depth[8] = {0};
-    for (uint32_t i = 0; i < plan[AT_NODE_COUNT]; i++) {
+    for (uint32_t i = 0; i < plan[METTULOS_PLAN_NODES]; i++) {
         uint32_t core = places->supply[i];
         if (!was_charged(plan, before, after, i) || places->depth[i] <= depth[core]) continue;
         last[core] = i;
         depth[core] = places->depth[i];
     }
-    for (uint32_t core = 0; core < plan[2]; core++) {
-        if (grants[core] != IDLE) continue;
+    for (uint32_t core = 0; core < plan[METTULOS_PLAN_SUPPLIES]; core++) {
+        if (grants[core] != METTULOS_IDLE) continue;
         idle_below[depth[core]]++;
         if (depth[core] > 0) idle_without_children += !has_children(plan, last[core]);
     }
@@ -331,7 +388,7 @@ static uint64_t gaining[9];
 
 void seen_passed(const uint32_t *plan, const struct passed *passed)
 {
-    gained_cores[plan[2]] += passed->depths != 0;
+    gained_cores[plan[METTULOS_PLAN_SUPPLIES]] += passed->depths != 0;
     idle_in_vain += passed->depths == 0;
     for (uint32_t depth = 1; depth <= 8; depth++) gained_depth[depth] += passed->depths >> depth & 1;
     passed_siblings[passed->siblings < 3 ? passed->siblings : 3]++;
@@ -354,7 +411,7 @@ void seen_windows(const uint32_t *plan, uint32_t leaf, enum course course, uint6
 {
     struct places places;
     find_places(plan, &places);
-    uint32_t odd = places.odd[leaf] || places.below_odd[leaf], kind = node_of(plan, leaf)[0];
+    uint32_t odd = places.odd[leaf] || places.below_odd[leaf], kind = kind_of(plan, leaf);
     windows_held[odd][kind] += windows;
     leaves_held[odd][kind] += windows > 0;
     leaves_just[odd][kind] += just > 0;
@@ -363,25 +420,56 @@ void seen_windows(const uint32_t *plan, uint32_t leaf, enum course course, uint6
     leaves_just_in[course] += just > 0;
 }
 
+/* Soft leaves, by the settings. */
+static uint64_t stretches_in[COURSES], soft_in[COURSES], soft_just_in[COURSES];
+
+void seen_stretches(const uint32_t *plan, uint32_t leaf, enum course course, uint64_t stretches, uint64_t just)
+{
+    int misses_all = mettulos_node(plan, leaf)[METTULOS_NODE_D] == mettulos_node(plan, leaf)[METTULOS_NODE_W];
+    if (misses_all) return; /* nothing is promised then */
+    stretches_in[course] += stretches;
+    soft_in[course] += stretches > 0;
+    soft_just_in[course] += just > 0;
+}
+
 /* ---- the report */
 
 static void report_plans(void)
 {
-    static const char *const names[] = {"rule 11 broken at depth", "rule 12 broken at depth", "rule 13 broken at depth", "rule 14 broken at depth"};
+    static const char *const names[] = {"rule 11 broken at depth", "rule 12 broken at depth", "rule 13 broken at depth", "rule 14 broken at depth",
+                                        "a soft leaf not made as it must be at depth"};
     print_row("accepted plans by cores", plans_by_cores, 1, 8);
     print_row("accepted plans by depth", plans_by_depth, 1, 8);
     printf("accepted plans of 64 nodes: %" PRIu64 "\n", plans_of_64);
     print_row("accepted plans with an odd period under a whole supply (0) or host (1)", plans_odd, 0, 1);
     print_row("accepted plans with a whole host that has children by its depth", plans_whole, 1, 7);
     printf("accepted plans with a whole host that has children and siblings: %" PRIu64 "\n", plans_whole_beside);
-    for (int rule = 0; rule < 4; rule++) print_row(names[rule], broken[rule], 1, 8);
+    print_row("accepted plans by edition", plans_by_edition, 1, 2);
+    for (int rule = 0; rule < 5; rule++) print_row(names[rule], broken[rule], 1, 8);
     want_row("an accepted plan with cores", plans_by_cores, 1, 8, ENOUGH);
     want_row("an accepted plan of depth", plans_by_depth, 1, 8, ENOUGH);
     want("an accepted plan of 64 nodes", "", plans_of_64, ENOUGH);
     want_row("an accepted plan with an odd period under a whole supply (0) or host (1):", plans_odd, 0, 1, ENOUGH);
     want_row("an accepted plan with a whole host that has children, of depth", plans_whole, 1, 7, ENOUGH_OF_A_PART);
     want("an accepted plan with a whole host that has children and siblings", "", plans_whole_beside, ENOUGH);
-    for (int rule = 0; rule < 4; rule++) want_row(names[rule], broken[rule], 1, 8, ENOUGH_OF_A_PART);
+    want_row("an accepted plan of edition", plans_by_edition, 1, 2, ENOUGH);
+    for (int rule = 0; rule < 5; rule++) want_row(names[rule], broken[rule], 1, 8, ENOUGH_OF_A_PART);
+}
+
+static void report_soft(void)
+{
+    for (int edge = 0; edge < EDGES; edge++) {
+        printf("accepted plans with a soft leaf with %s: %" PRIu64 "\n", edge_names[edge], plans_soft[edge]);
+        want("an accepted plan with a soft leaf with", edge_names[edge], plans_soft[edge], ENOUGH);
+    }
+    print_row("grants to soft leaves by depth", granted_soft, 1, 8);
+    want_row("a grant to a soft leaf of depth", granted_soft, 1, 8, ENOUGH);
+    print_row("stretches of soft leaves with D < W, by the settings of their slots (0 off, 1 on, 2 both)", stretches_in, 0, 2);
+    print_row("soft leaves with such stretches", soft_in, 0, 2);
+    print_row("soft leaves with such stretches that had as many windows short as may be", soft_just_in, 0, 2);
+    want_row("stretches of soft leaves, by the settings (0 off, 1 on, 2 both):", stretches_in, 0, 2, ENOUGH);
+    want_row("soft leaves with stretches, by the settings (0 off, 1 on, 2 both):", soft_in, 0, 2, ENOUGH);
+    want_row("soft leaves with stretches that had as many windows short as may be, by the settings (0 off, 1 on, 2 both):", soft_just_in, 0, 2, ENOUGH_OF_A_PART);
 }
 
 static void report_grants(void)
@@ -477,7 +565,11 @@ static void report_things(void)
         "a parent of no slots with a child that is served some, refused by 14",
         "a call that goes on from one with the other setting",
         "slots that are given out otherwise with the setting on than off", "slots of a plan with hosts that are given out alike with the setting on and off",
-        "a setting that is none where the plan value or the state is not fit, refused by 5", "a setting that is none where a length is wrong, refused by 17"};
+        "a setting that is none where the plan value or the state is not fit, refused by 5", "a setting that is none where a length is wrong, refused by 17",
+        "a soft leaf that allows just what a stretch can lose, accepted, and with one miss less refused",
+        "a spare byte that is not 0, refused by 3", "a plan that ends among the spare bytes, refused by 1", "a plan that ends in D or W, refused by 1",
+        "D or W out of range, or a host with D above 0, refused by 19", "a plan value of an edition that is neither 1 nor 2, refused",
+        "a plan value of edition 1 with a D that is not 0 or a W that is not 1, refused"};
     printf("slots: %" PRIu64 " with the setting off, %" PRIu64 " with it on, at 2^39 or later %" PRIu64 "; runs of %d slots or more: %" PRIu64 "\n",
            slots_given[0], slots_given[1], slots_past_half, LONG_RUN, long_runs);
     printf("runs and steps with counts past the last node: %" PRIu64 "\n", odd_counts_kept);
@@ -500,6 +592,7 @@ int seen_report(uint64_t rounds)
     report_idle();
     report_passed();
     report_windows();
+    report_soft();
     report_things();
     want_calls();
     return too_seldom;

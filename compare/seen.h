@@ -47,7 +47,10 @@ void seen_gaining(uint32_t depths);
  * had just that. */
 void seen_windows(const uint32_t *plan, uint32_t leaf, enum course course, uint64_t windows, uint64_t just);
 
-/* A plan that one of the rules 11 to 14 refused at a node of this depth. */
+/* The same of a soft leaf: how many of its stretches, and how many of them had as many windows short as may be. */
+void seen_stretches(const uint32_t *plan, uint32_t leaf, enum course course, uint64_t stretches, uint64_t just);
+
+/* A plan that one of the rules 11 to 14, or 20, refused at a node of this depth. */
 void seen_broken(uint32_t rule, uint32_t depth);
 
 /* Other things that must come up. */
@@ -69,6 +72,13 @@ enum thing {
     SETTINGS_AGREE,        /* and to the same, hosts among the nodes */
     BAD_SETTING_FIRST,     /* a setting that is none, refused by 5 where the plan value or the state is not fit either */
     BAD_SETTING_LAST,      /* and refused by 17 where a length is wrong too */
+    SOFT_AT_THE_EDGE,      /* a soft leaf that allows just what a stretch can lose, accepted, and refused by 11 with one miss less */
+    SPARE_BYTE,            /* a plan refused by 3 for a spare byte */
+    CUT_IN_SPARE_BYTES,    /* and by 1 for one that is not there */
+    CUT_IN_MISSES,         /* and for a D or W that is not all there */
+    BAD_MISSES,            /* a plan refused by 19 */
+    BAD_EDITION,           /* a plan value of an edition that is neither 1 nor 2, refused */
+    MISSES_IN_FIRST,       /* a plan value of edition 1 with a D that is not 0 or a W that is not 1, refused */
     THINGS
 };
 void seen(enum thing thing);

@@ -11,6 +11,13 @@
  * sliding leaf) and the type that it is served, which is aligned. A supply with C = T and a host that wants such a type are whole: they give all slots. A slot
  * lasts P/Q microseconds; slots and times count from 0.
  *
+ * Misses. Plans have editions, 1 and 2. In edition 2 each node has D and W beside its wanted type, with W from 1 to 1,024 and D from 0 to W; in edition 1 they
+ * are 0 and 1. A leaf with D above 0 is soft: of each W of its wanted windows in a row, a stretch, which starts at a multiple of W times its wanted T, at most D
+ * may have less than its wanted C. It is an aligned leaf, and one of its served T and its wanted T divides the other. Of a soft leaf nothing is said about one
+ * window by itself, nor about W windows in a row that are no stretch. A leaf with D = 0 is hard, whatever W is: each of its windows has its wanted C. Hosts have
+ * D = 0. A served type stands in for what a soft leaf wants when no stretch can have more than D windows short: (7,12) for (3,4) with D 2 and W 3, but not with
+ * D 1.
+ *
  * What every function needs of its caller: a pointer and the length after it belong together (so many readable elements, and writable ones where the
  * pointer is not const, aligned as C has them), and no buffer that is written overlaps another argument. Nothing is kept after the call.
  *
@@ -44,12 +51,12 @@
 extern "C" {
 #endif
 
-/* The numbers of refusals. The place of a refused read is a byte for 1 to 10, counted from 0 (of a field of several bytes the first), and a node for 11 to 14.
- * The place of a refused decision is 0 for the giver and 1 for the wanted type. 15, 16 and 17 have no place, and neither has 5 of a setting. */
+/* The numbers of refusals. The place of a refused read is a byte for 1 to 10 and 19, counted from 0 (of a field of several bytes the first), and a node for 11 to
+ * 14 and 20. The place of a refused decision is 0 for the giver and 1 for the wanted type. 15, 16 and 17 have no place, and neither has 5 of a setting. */
 #define METTULOS_DONE 0 /* no refusal */
 #define METTULOS_CUT_OFF 1 /* the bytes end before a field does; each byte of a name is a field */
-#define METTULOS_BAD_COUNT 2 /* a count is out of its range: 1 tick, 1 to 8 supplies, 1 to 64 nodes, as many names as nodes */
-#define METTULOS_BAD_TICK 3 /* P or Q is not 1 to 1,000,000 */
+#define METTULOS_BAD_COUNT 2 /* a count is out of its range: 1 tick or 2, 1 to 8 supplies, 1 to 64 nodes, as many names as nodes */
+#define METTULOS_BAD_TICK 3 /* P or Q is not 1 to 1,000,000; or a spare byte of edition 2 is not 0, and the place is that byte */
 #define METTULOS_BAD_TYPE 4 /* T is not 1 to 4,096, or C is over T; the place in a file is that of C */
 #define METTULOS_BAD_KIND 5 /* a kind or a setting that is none of those below */
 #define METTULOS_BAD_PARENT 6 /* a parent is neither a supply of the plan nor an earlier host */
@@ -57,13 +64,15 @@ extern "C" {
 #define METTULOS_BAD_NAME 8 /* a name's length is not 1 to 32, or one of its bytes is not 33 to 126 */
 #define METTULOS_SAME_NAME 9 /* an earlier node has the name; the place is the length byte of the later one */
 #define METTULOS_LEFT_OVER 10 /* bytes follow the last name */
-#define METTULOS_NO_STAND_IN 11 /* the type that a node is served does not stand in for the one that it wants */
+#define METTULOS_NO_STAND_IN 11 /* the type that a node is served does not stand in for what it wants, with the misses that a soft leaf allows */
 #define METTULOS_NO_MULTIPLE 12 /* a node's served T is no multiple of that of its parent (the supply's, or the T that the host wants), which is not whole */
 #define METTULOS_AT_ODDS 13 /* of a node's served T and that of an earlier node with the same parent, neither divides the other */
 #define METTULOS_OVERFULL 14 /* up to and with this node, those with its parent are served more than it has, over the longest served T among all of them */
 #define METTULOS_BEYOND 15 /* a slot, a time or an answer is over METTULOS_LAST_SLOT */
 #define METTULOS_UNFIT 16 /* a plan value, a state or a tick that no call takes */
 #define METTULOS_BAD_LENGTH 17 /* a buffer is not as long as it has to be, or a run's inputs are not equally long */
+#define METTULOS_BAD_MISSES 19 /* W is not 1 to 1,024, or D is over W, or a host has D above 0; the place in a file is that of D */
+#define METTULOS_BAD_SOFT 20 /* a soft leaf is sliding, or of its served T and its wanted T neither divides the other */
 
 /* The place of a refusal that has none. */
 #define METTULOS_NOWHERE 0xFFFFFFFFu
@@ -97,33 +106,36 @@ extern "C" {
 #define METTULOS_MOST_NODES 64
 #define METTULOS_MOST_DEPTH 8
 #define METTULOS_LONGEST_NAME 32
-#define METTULOS_LONGEST_PLAN 2796 /* bytes; of a longer file any 2,797 or more from the front are refused as the whole file is */
+#define METTULOS_LONGEST_PLAN 3060 /* bytes; of a longer file any 3,061 or more from the front are refused as the whole file is */
 #define METTULOS_LONGEST_STRETCH 12282 /* bytes: an out of this length has room for the allocation of every pair that fails */
 #define METTULOS_LAST_SLOT 0x10000000000u /* 2^40: no slot, no time and no clock is over it; so the last slot that is given out is the one before */
 
-/* A plan value as 404 numbers: P, Q, the number of supplies, C and T of eight supplies, the number of nodes, and six numbers for each of 64 nodes: kind (0
- * aligned leaf, 1 sliding leaf, 2 virtual host), parent (as the parent byte of a plan file: below 128 a supply, 128 and up node number - 128), wanted C and
- * T, served C and T. Entries past the last supply and the last node are zeros after a read, and otherwise ignored. But numbers beyond their field (a kind over
- * 2, a parent over 255, a C or T over 65,535), in unused entries too, make the value unfit: 16. */
-#define METTULOS_PLAN 404
-#define METTULOS_PLAN_P 0
-#define METTULOS_PLAN_Q 1
-#define METTULOS_PLAN_SUPPLIES 2
-#define METTULOS_PLAN_SUPPLY(i) (3 + 2 * (i)) /* where supply i begins */
-#define METTULOS_PLAN_NODES 19
-#define METTULOS_PLAN_NODE(i) (20 + 6 * (i)) /* where node i begins */
+/* A plan value as 533 numbers: the edition, P, Q, the number of supplies, C and T of eight supplies, the number of nodes, and eight numbers for each of 64 nodes:
+ * kind (0 aligned leaf, 1 sliding leaf, 2 virtual host), parent (as the parent byte of a plan file: below 128 a supply, 128 and up node number - 128), wanted C
+ * and T, D and W, served C and T. Entries past the last supply and the last node are zeros after a read, and otherwise ignored. But numbers beyond their field
+ * (a kind over 2, a parent over 255, a C, T, D or W over 65,535), in unused entries too, make the value unfit: 16. */
+#define METTULOS_PLAN 533
+#define METTULOS_PLAN_EDITION 0
+#define METTULOS_PLAN_P 1
+#define METTULOS_PLAN_Q 2
+#define METTULOS_PLAN_SUPPLIES 3
+#define METTULOS_PLAN_SUPPLY(i) (4 + 2 * (i)) /* where supply i begins */
+#define METTULOS_PLAN_NODES 20
+#define METTULOS_PLAN_NODE(i) (21 + 8 * (i)) /* where node i begins */
 
 /* The two numbers of a supply, counted from where it begins. */
 #define METTULOS_SUPPLY_C 0
 #define METTULOS_SUPPLY_T 1
 
-/* The six numbers of a node, counted from where it begins. */
+/* The eight numbers of a node, counted from where it begins. */
 #define METTULOS_NODE_KIND 0
 #define METTULOS_NODE_PARENT 1
 #define METTULOS_NODE_WANTED_C 2
 #define METTULOS_NODE_WANTED_T 3
-#define METTULOS_NODE_SERVED_C 4
-#define METTULOS_NODE_SERVED_T 5
+#define METTULOS_NODE_D 4 /* how many of W wanted windows may be short; above 0 for a soft leaf alone */
+#define METTULOS_NODE_W 5
+#define METTULOS_NODE_SERVED_C 6
+#define METTULOS_NODE_SERVED_T 7
 
 /* The parent that is node 0; smaller ones are supplies. */
 #define METTULOS_PARENT_NODE 128
@@ -157,20 +169,21 @@ extern "C" {
 uint64_t mettulos_decide(uint8_t gives, uint16_t giver_c, uint16_t giver_t, uint8_t wants, uint16_t wanted_c, uint16_t wanted_t,
                          uint8_t *out, size_t out_len, uint32_t *answer, size_t answer_len);
 
-/* Reads a plan of any bytes. plan has METTULOS_PLAN numbers: the value, or zeros where the bytes are refused (1 to 14, with the place).
+/* Reads a plan of any bytes. plan has METTULOS_PLAN numbers: the value, or zeros where the bytes are refused (1 to 14, 19 and 20, with the place).
  *
- * The bytes of a plan, numbers with the low byte first: the byte 1, P and Q of four bytes each; the number of supplies, 1 to 8, and for each C and T of two
- * bytes each; the number of nodes, 1 to 64, and for each a byte for the kind, a byte for the parent, wanted C and T, served C and T of two bytes each; the
- * number of nodes again, and for each its name, a byte for the length and so many bytes. They are tested from the front; then 11 for all nodes; then 12, 13
- * and 14 for each supply and after them for each host. */
+ * The bytes of a plan, numbers with the low byte first: the edition, a byte 1 or 2 (it counts the records of the tick), P and Q of four bytes each, and in
+ * edition 2 eight spare bytes, which are 0; the number of supplies, 1 to 8, and for each C and T of two bytes each; the number of nodes, 1 to 64, and for each
+ * a byte for the kind, a byte for the parent, wanted C and T, in edition 2 D and W, served C and T of two bytes each; the number of nodes again, and for each
+ * its name, a byte for the length and so many bytes. They are tested from the front, each spare byte by itself, a type and D and W when both numbers are there;
+ * then 20 and 11 node by node, 20 first; then 12, 13 and 14 for each supply and after them for each host. */
 uint64_t mettulos_read(const uint8_t *bytes, size_t len, uint32_t *plan, size_t plan_len);
 
 /* Where the name of node i stands in the bytes of a plan. answer has 2 numbers: its first byte and its length; 0 and 0 for a refused plan or a node not
  * there, which are answered by 0 like any other. */
 uint64_t mettulos_name(const uint8_t *bytes, size_t len, size_t i, uint64_t *answer, size_t answer_len);
 
-/* A fresh state of a plan value. state has METTULOS_STATE numbers; zeros where the plan value is refused (16): one that breaks any of 2 to 7 or 11 to 14, or
- * has a number beyond its field. */
+/* A fresh state of a plan value. state has METTULOS_STATE numbers; zeros where the plan value is refused (16): one that breaks any of 2 to 7, 11 to 14, 19 or 20,
+ * whose edition is neither 1 nor 2, that is of edition 1 and has a node whose D is not 0 or whose W is not 1, or that has a number beyond its field. */
 uint64_t mettulos_fresh(const uint32_t *plan, size_t plan_len, uint64_t *state, size_t state_len);
 
 /* One slot: the state goes on by it, and grants has 8 answers: the leaf, 254 idle, 255 not supplied or no such supply. Setting: 0 off, 1 on. Bit i of
@@ -221,7 +234,7 @@ METTULOS_INLINE const char *mettulos_words(uint32_t number)
     case METTULOS_DONE: return "done";
     case METTULOS_CUT_OFF: return "the bytes end inside a field";
     case METTULOS_BAD_COUNT: return "a count is out of its range";
-    case METTULOS_BAD_TICK: return "P or Q is out of its range";
+    case METTULOS_BAD_TICK: return "P or Q is out of its range, or a spare byte is not 0";
     case METTULOS_BAD_TYPE: return "a type is malformed";
     case METTULOS_BAD_KIND: return "a kind or a setting is unknown";
     case METTULOS_BAD_PARENT: return "a parent names nothing allowed";
@@ -229,18 +242,20 @@ METTULOS_INLINE const char *mettulos_words(uint32_t number)
     case METTULOS_BAD_NAME: return "a name's length or byte is bad";
     case METTULOS_SAME_NAME: return "a name occurs before";
     case METTULOS_LEFT_OVER: return "bytes are left over";
-    case METTULOS_NO_STAND_IN: return "the served type does not stand in for the wanted one";
+    case METTULOS_NO_STAND_IN: return "the served type does not stand in for what is wanted";
     case METTULOS_NO_MULTIPLE: return "the served period is no multiple of the parent's";
     case METTULOS_AT_ODDS: return "the served period is at odds with an earlier sibling's";
     case METTULOS_OVERFULL: return "more is served than the parent has";
     case METTULOS_BEYOND: return "beyond 2^40";
     case METTULOS_UNFIT: return "a plan value, state or tick is not fit";
     case METTULOS_BAD_LENGTH: return "lengths do not fit";
+    case METTULOS_BAD_MISSES: return "D or W is out of its range, or a host's D is not 0";
+    case METTULOS_BAD_SOFT: return "a soft leaf is sliding, or neither of its periods divides the other";
     default: return "no refusal's number";
     }
 }
 
-/* The two numbers of supply i, which is below 8, and the six of node i, which is below 64, in a plan value. */
+/* The two numbers of supply i, which is below 8, and the eight of node i, which is below 64, in a plan value. */
 METTULOS_INLINE const uint32_t *mettulos_supply(const uint32_t *plan, size_t i)
 {
     return plan + METTULOS_PLAN_SUPPLY(i);

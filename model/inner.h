@@ -4,7 +4,7 @@
 
 #include "model.h"
 
-/* The numbers of document 01, "Refusal numbers". */
+/* The numbers of document 01, "Refusal numbers", and of request 6 of document 02. */
 enum {
     BYTES_MISSING = 1,
     COUNT_OUT_OF_RANGE = 2,
@@ -22,11 +22,14 @@ enum {
     TOO_MUCH_SERVED = 14,
     BEYOND_LIMIT = 15,
     NOT_FIT = 16,
-    LENGTHS_DO_NOT_FIT = 17
+    LENGTHS_DO_NOT_FIT = 17,
+    MISSES_OUT_OF_RANGE = 19,
+    SOFT_LEAF_NOT_SO_MADE = 20
 };
 
 enum { ALIGNED_LEAF = 0, SLIDING_LEAF = 1, HOST = 2 };
-enum { MOST_SUPPLIES = 8, MOST_NODES = 64, MOST_DEPTH = 8, FIRST_NODE_BYTE = 128 };
+enum { FIRST_EDITION = 1, SECOND_EDITION = 2 };
+enum { MOST_SUPPLIES = 8, MOST_NODES = 64, MOST_DEPTH = 8, MOST_WINDOWS = 1024, FIRST_NODE_BYTE = 128 };
 
 /* No slot, time or answer lies beyond this. */
 #define LIMIT ((uint64_t)1 << 40)
@@ -36,13 +39,21 @@ struct type {
     uint32_t c, t;
 };
 
+/* D of W windows may miss. */
+struct misses {
+    uint32_t d, w;
+};
+
 struct node {
     uint32_t kind;
     uint32_t parent; /* as the parent byte: a supply, or FIRST_NODE_BYTE + a node */
-    struct type wanted, served;
+    struct type wanted;
+    struct misses misses;
+    struct type served;
 };
 
 struct plan {
+    uint32_t edition;
     uint32_t p, q;
     uint32_t supply_count;
     struct type supplies[MOST_SUPPLIES];
@@ -75,7 +86,12 @@ uint32_t model_depth(const struct plan *plan, uint32_t i);
 /* plan.c: the fields of a plan value; 0 where it is not fit, which is 16. */
 int model_fit_plan(const uint32_t *numbers, struct plan *plan);
 
-/* rules.c: the first refusal by rules 11 to 14, or 0. */
+/* soft.c: whether a leaf may miss windows at all; whether such a leaf is made as it must be; and whether no stretch can lose more windows than it may. */
+int model_is_soft(const struct node *node);
+int model_soft_is_so_made(const struct node *node);
+int model_soft_stands_in(const struct node *node);
+
+/* rules.c: the first refusal by rules 11 to 14 and by 20, or 0. */
 uint64_t model_rules(const struct plan *plan);
 
 #endif

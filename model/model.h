@@ -1,4 +1,4 @@
-/* The model: document 01, and requests 2 and 12 of document 02, in plain C, written from their sentences and from nothing of crates/, so that the proved
+/* The model: document 01, and requests 2, 6 and 12 of document 02, in plain C, written from their sentences and from nothing of crates/, so that the proved
  * library has something independent to be compared with. It follows the meaning by plain search, simple before fast, and leans on nothing but the language.
  *
  * The calls are those of include/mettulos.h under another prefix: the same arguments, the same numbers for plan values and states, the same refusals, and
@@ -10,7 +10,7 @@
 #include <stdint.h>
 
 #define MODEL_NOWHERE 0xFFFFFFFFu
-#define MODEL_PLAN 404
+#define MODEL_PLAN 533
 #define MODEL_STATE 65
 #define MODEL_GRANTS 8
 

@@ -1,4 +1,5 @@
-/* Document 01, "The plan file": the bytes of a plan from the front, each field tested when it has been read; names; and plan values. */
+/* Document 01, "The plan file", and its edition 2, request 6 of document 02: the bytes of a plan from the front, each field tested when it has been read; names;
+ * and plan values. */
 #include "inner.h"
 
 #include <string.h>
@@ -8,6 +9,18 @@
 int model_tick_is_sound(uint32_t p_or_q)
 {
     return 1 <= p_or_q && p_or_q <= 1000000;
+}
+
+static int edition_is_sound(uint32_t edition)
+{
+    return edition == FIRST_EDITION || edition == SECOND_EDITION;
+}
+
+/* W is 1 to 1,024 and D at most W; a host misses nothing. */
+static int misses_are_sound(const struct node *node)
+{
+    if (node->misses.w < 1 || node->misses.w > MOST_WINDOWS || node->misses.d > node->misses.w) return 0;
+    return node->kind != HOST || node->misses.d == 0;
 }
 
 static int supply_count_is_sound(uint32_t count)
@@ -72,15 +85,31 @@ static uint64_t read_tick_number(struct reader *reader, uint32_t *value)
     return model_tick_is_sound(*value) ? 0 : refusal(TICK_OUT_OF_RANGE, place);
 }
 
+/* The second record of the tick, which is eight zero bytes, each a field. */
+static uint64_t read_spare_bytes(struct reader *reader)
+{
+    for (uint32_t k = 0; k < 8; k++) {
+        uint32_t place = reader->at, byte;
+        uint64_t refused = read_field(reader, 1, &byte);
+        if (refused) return refused;
+        if (byte != 0) return refusal(TICK_OUT_OF_RANGE, place);
+    }
+    return 0;
+}
+
+/* The count of the tick is the edition. */
 static uint64_t read_tick(struct reader *reader)
 {
-    uint32_t place = reader->at, count;
-    uint64_t refused = read_field(reader, 1, &count);
+    struct plan *plan = &reader->plan;
+    uint32_t place = reader->at;
+    uint64_t refused = read_field(reader, 1, &plan->edition);
     if (refused) return refused;
-    if (count != 1) return refusal(COUNT_OUT_OF_RANGE, place);
-    refused = read_tick_number(reader, &reader->plan.p);
+    if (!edition_is_sound(plan->edition)) return refusal(COUNT_OUT_OF_RANGE, place);
+    refused = read_tick_number(reader, &plan->p);
     if (refused) return refused;
-    return read_tick_number(reader, &reader->plan.q);
+    refused = read_tick_number(reader, &plan->q);
+    if (refused) return refused;
+    return plan->edition == SECOND_EDITION ? read_spare_bytes(reader) : 0;
 }
 
 /* C and T are a field each; the type is tested when both have been read. */
@@ -92,6 +121,19 @@ static uint64_t read_type(struct reader *reader, struct type *type)
     refused = read_field(reader, 2, &type->t);
     if (refused) return refused;
     return model_type_is_sound(*type) ? 0 : refusal(TYPE_MALFORMED, place);
+}
+
+/* D and W are a field each, and are tested when both have been read. A node of edition 1 has D 0 and W 1, and no bytes for them. */
+static uint64_t read_misses(struct reader *reader, struct node *node)
+{
+    uint32_t place = reader->at;
+    node->misses = (struct misses){0, 1};
+    if (reader->plan.edition == FIRST_EDITION) return 0;
+    uint64_t refused = read_field(reader, 2, &node->misses.d);
+    if (refused) return refused;
+    refused = read_field(reader, 2, &node->misses.w);
+    if (refused) return refused;
+    return misses_are_sound(node) ? 0 : refusal(MISSES_OUT_OF_RANGE, place);
 }
 
 static uint64_t read_supplies(struct reader *reader)
@@ -122,6 +164,8 @@ static uint64_t read_node(struct reader *reader, uint32_t i)
     if (!model_parent_is_allowed(plan, i)) return refusal(PARENT_NOT_ALLOWED, place);
     if (model_depth(plan, i) > MOST_DEPTH) return refusal(TOO_DEEP, place);
     refused = read_type(reader, &node->wanted);
+    if (refused) return refused;
+    refused = read_misses(reader, node);
     if (refused) return refused;
     return read_type(reader, &node->served);
 }
@@ -199,10 +243,11 @@ static uint64_t read_plan(struct reader *reader, const uint8_t *bytes, size_t le
 /* ---- plan values as numbers */
 
 /* The places of a plan value's numbers. */
-enum { AT_P = 0, AT_Q = 1, AT_SUPPLY_COUNT = 2, AT_SUPPLIES = 3, AT_NODE_COUNT = 19, AT_NODES = 20, NUMBERS_OF_A_NODE = 6 };
+enum { AT_EDITION = 0, AT_P = 1, AT_Q = 2, AT_SUPPLY_COUNT = 3, AT_SUPPLIES = 4, AT_NODE_COUNT = 20, AT_NODES = 21, NUMBERS_OF_A_NODE = 8 };
 
 static void write_value(const struct plan *plan, uint32_t *numbers)
 {
+    numbers[AT_EDITION] = plan->edition;
     numbers[AT_P] = plan->p;
     numbers[AT_Q] = plan->q;
     numbers[AT_SUPPLY_COUNT] = plan->supply_count;
@@ -218,13 +263,16 @@ static void write_value(const struct plan *plan, uint32_t *numbers)
         of_node[1] = node->parent;
         of_node[2] = node->wanted.c;
         of_node[3] = node->wanted.t;
-        of_node[4] = node->served.c;
-        of_node[5] = node->served.t;
+        of_node[4] = node->misses.d;
+        of_node[5] = node->misses.w;
+        of_node[6] = node->served.c;
+        of_node[7] = node->served.t;
     }
 }
 
 static void read_value(const uint32_t *numbers, struct plan *plan)
 {
+    plan->edition = numbers[AT_EDITION];
     plan->p = numbers[AT_P];
     plan->q = numbers[AT_Q];
     plan->supply_count = numbers[AT_SUPPLY_COUNT];
@@ -239,13 +287,19 @@ static void read_value(const uint32_t *numbers, struct plan *plan)
         node->kind = of_node[0];
         node->parent = of_node[1];
         node->wanted = (struct type){of_node[2], of_node[3]};
-        node->served = (struct type){of_node[4], of_node[5]};
+        node->misses = (struct misses){of_node[4], of_node[5]};
+        node->served = (struct type){of_node[6], of_node[7]};
     }
 }
 
 static int is_within_fields(struct type type)
 {
     return type.c <= 65535 && type.t <= 65535;
+}
+
+static int misses_are_within_fields(struct misses misses)
+{
+    return misses.d <= 65535 && misses.w <= 65535;
 }
 
 /* Whether every number is one that its field can hold, in the entries that are not used too: those are ignored as far as they are entries at all. */
@@ -257,23 +311,32 @@ static int numbers_are_within_fields(const struct plan *plan)
     for (uint32_t i = 0; i < MOST_NODES; i++) {
         const struct node *node = &plan->nodes[i];
         if (node->kind > HOST || node->parent > 255 || !is_within_fields(node->wanted) || !is_within_fields(node->served)) return 0;
+        if (!misses_are_within_fields(node->misses)) return 0;
     }
     return 1;
 }
 
-/* Whether node i breaks none of 4 to 7. */
+/* A node of edition 1 has D 0 and W 1. */
+static int misses_are_of_the_edition(const struct plan *plan, const struct node *node)
+{
+    return plan->edition != FIRST_EDITION || (node->misses.d == 0 && node->misses.w == 1);
+}
+
+/* Whether node i breaks none of 4 to 7 and 19. */
 static int node_is_sound(const struct plan *plan, uint32_t i)
 {
     const struct node *node = &plan->nodes[i];
+    if (!misses_are_sound(node) || !misses_are_of_the_edition(plan, node)) return 0;
     return node->kind <= HOST && model_parent_is_allowed(plan, i) && model_depth(plan, i) <= MOST_DEPTH && model_type_is_sound(node->wanted) &&
            model_type_is_sound(node->served);
 }
 
-/* A value is fit when it breaks none of 2 to 7 and 11 to 14. */
+/* A value is fit when it breaks none of 2 to 7, 11 to 14, 19 and 20. */
 int model_fit_plan(const uint32_t *numbers, struct plan *plan)
 {
     read_value(numbers, plan);
     if (!numbers_are_within_fields(plan)) return 0;
+    if (!edition_is_sound(plan->edition)) return 0;
     if (!model_tick_is_sound(plan->p) || !model_tick_is_sound(plan->q)) return 0;
     if (!supply_count_is_sound(plan->supply_count) || !node_count_is_sound(plan->node_count)) return 0;
     for (uint32_t i = 0; i < plan->supply_count; i++) {

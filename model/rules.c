@@ -1,13 +1,21 @@
-/* Document 01, "Rules beyond the bytes", with whole parents as document 02 has them in request 2, in the order in which a plan is refused by them. The plan's
- * fields are taken to be sound. */
+/* Document 01, "Rules beyond the bytes", with whole parents and soft leaves as document 02 has them in requests 2 and 6, in the order in which a plan is refused
+ * by them. The plan's fields are taken to be sound. */
 #include "inner.h"
 
-/* Rule 11: a node's served type, aligned, stands in for its wanted type. */
+/* Rule 11: a node's served type, aligned, stands in for its wanted type; of a soft leaf, no stretch can lose more than its D. */
+static int stands_in(const struct node *node)
+{
+    if (model_is_soft(node)) return model_soft_stands_in(node);
+    return model_decision(0, node->served, node->kind == SLIDING_LEAF, node->wanted).holds;
+}
+
+/* Rule 11 at each node, and 20 at a soft leaf just before it. */
 static uint64_t rule_eleven(const struct plan *plan)
 {
     for (uint32_t i = 0; i < plan->node_count; i++) {
         const struct node *node = &plan->nodes[i];
-        if (!model_decision(0, node->served, node->kind == SLIDING_LEAF, node->wanted).holds) return refusal(DOES_NOT_STAND_IN, i);
+        if (model_is_soft(node) && !model_soft_is_so_made(node)) return refusal(SOFT_LEAF_NOT_SO_MADE, i);
+        if (!stands_in(node)) return refusal(DOES_NOT_STAND_IN, i);
     }
     return 0;
 }

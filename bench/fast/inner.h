@@ -21,7 +21,9 @@ enum {
     TOO_MUCH_SERVED = 14,
     BEYOND_LIMIT = 15,
     NOT_FIT = 16,
-    LENGTHS_DO_NOT_FIT = 17
+    LENGTHS_DO_NOT_FIT = 17,
+    MISSES_OUT_OF_RANGE = 19,
+    SOFT_LEAF_NOT_SO_MADE = 20
 };
 
 #define NOWHERE 0xFFFFFFFFu
@@ -32,19 +34,27 @@ static inline uint64_t refusal(uint32_t number, size_t place)
 }
 
 enum { SLIDING_LEAF = 1, HOST = 2 };
+enum { FIRST_EDITION = 1, SECOND_EDITION = 2 };
 enum { MOST_SUPPLIES = 8, MOST_NODES = 64, MOST_DEPTH = 8, FIRST_NODE_BYTE = 128 };
 
 struct type {
     uint32_t c, t;
 };
 
+struct misses {
+    uint32_t d, w;
+};
+
 struct node {
     uint32_t kind, parent;
-    struct type wanted, served;
+    struct type wanted;
+    struct misses misses;
+    struct type served;
 };
 
 /* The numbers of a plan value, and of a state, lie one after the other as here, so that a lent slice of the right length is looked at in place. */
 struct plan {
+    uint32_t edition;
     uint32_t p, q;
     uint32_t supply_count;
     struct type supplies[MOST_SUPPLIES];
@@ -67,6 +77,12 @@ static inline int tick_is_sound(uint32_t p_or_q)
 static inline int type_is_sound(struct type type)
 {
     return type.t - 1 < 4096 && type.c <= type.t;
+}
+
+/* W is 1 to 1,024 and D at most W, and 0 for a host. */
+static inline int misses_are_sound(const struct node *node)
+{
+    return node->misses.w - 1 < 1024 && node->misses.d <= (node->kind == HOST ? 0 : node->misses.w);
 }
 
 /* The children of one parent that have one served period. */
@@ -95,8 +111,8 @@ static inline uint32_t parent_number(uint32_t parent_byte)
 /* pairs.c: the least ones of any wanted window of so many slots. */
 uint32_t fast_least_ones(int giver_slides, struct type giver, int wanted_slides, uint32_t length);
 
-/* rules.c: whether a plan value breaks none of 2 to 7 and 11 to 14; whether a plan that breaks none of 2 to 7 breaks none of 11 to 14; and which of these it
- * breaks first. The first two lay out the families. */
+/* rules.c: whether a plan value breaks none of 2 to 7, 11 to 14, 19 and 20; whether a plan that breaks none of 2 to 7 and 19 breaks none of 11 to 14 and 20; and
+ * which of these it breaks first. The first two lay out the families. */
 int fast_is_fit(const struct plan *plan, struct families *families);
 int fast_keeps_rules(const struct plan *plan, struct families *families);
 uint64_t fast_first_broken(const struct plan *plan);

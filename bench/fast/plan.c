@@ -1,4 +1,5 @@
-/* Document 01, "The plan file": the bytes from the front into the lent plan value, each field tested when it has been read, and then the rules. */
+/* Document 01, "The plan file", and its edition 2, request 6 of document 02: the bytes from the front into the lent plan value, each field tested when it has
+ * been read, and then the rules. */
 #include "inner.h"
 
 #include <string.h>
@@ -20,6 +21,13 @@ static uint32_t four_bytes(const uint8_t *bytes)
     return two_bytes(bytes) | two_bytes(bytes + 2) << 16;
 }
 
+static uint64_t eight_bytes(const uint8_t *bytes)
+{
+    uint64_t word;
+    memcpy(&word, bytes, sizeof word);
+    return word;
+}
+
 /* ---- tick, supplies and nodes */
 
 static uint64_t read_count(struct reader *reader, uint32_t least, uint32_t most, uint32_t *count)
@@ -36,6 +44,34 @@ static uint64_t read_tick_number(struct reader *reader, uint32_t *number)
     if (reader->len - reader->at < 4) return refusal(BYTES_MISSING, reader->at);
     *number = four_bytes(reader->bytes + reader->at);
     if (!tick_is_sound(*number)) return refusal(TICK_OUT_OF_RANGE, reader->at);
+    reader->at += 4;
+    return 0;
+}
+
+/* Where the first of the eight bytes is that is not 0, or that is not there. */
+static uint64_t bad_spare(const struct reader *reader)
+{
+    size_t at = reader->at;
+    while (at < reader->len && reader->bytes[at] == 0) at++;
+    return refusal(at < reader->len ? TICK_OUT_OF_RANGE : BYTES_MISSING, at);
+}
+
+static uint64_t read_spare(struct reader *reader)
+{
+    if (reader->len - reader->at < 8 || eight_bytes(reader->bytes + reader->at) != 0) return bad_spare(reader);
+    reader->at += 8;
+    return 0;
+}
+
+static uint64_t read_misses(struct reader *reader, struct node *node)
+{
+    size_t there = reader->len - reader->at;
+    node->misses = (struct misses){0, 1};
+    if (reader->plan->edition == FIRST_EDITION) return 0;
+    if (there < 4) return refusal(BYTES_MISSING, there < 2 ? reader->at : reader->at + 2);
+    node->misses.d = two_bytes(reader->bytes + reader->at);
+    node->misses.w = two_bytes(reader->bytes + reader->at + 2);
+    if (!misses_are_sound(node)) return refusal(MISSES_OUT_OF_RANGE, reader->at);
     reader->at += 4;
     return 0;
 }
@@ -80,6 +116,7 @@ static uint64_t read_node(struct reader *reader, uint32_t i)
     node->parent = reader->bytes[reader->at];
     if ((refused = read_parent(reader, i))) return refused;
     if ((refused = read_type(reader, &node->wanted))) return refused;
+    if ((refused = read_misses(reader, node))) return refused;
     return read_type(reader, &node->served);
 }
 
@@ -87,10 +124,10 @@ static uint64_t read_sections(struct reader *reader)
 {
     struct plan *plan = reader->plan;
     uint64_t refused;
-    uint32_t ticks;
-    if ((refused = read_count(reader, 1, 1, &ticks))) return refused;
+    if ((refused = read_count(reader, FIRST_EDITION, SECOND_EDITION, &plan->edition))) return refused;
     if ((refused = read_tick_number(reader, &plan->p))) return refused;
     if ((refused = read_tick_number(reader, &plan->q))) return refused;
+    if (plan->edition == SECOND_EDITION && (refused = read_spare(reader))) return refused;
     if ((refused = read_count(reader, 1, MOST_SUPPLIES, &plan->supply_count))) return refused;
     for (uint32_t i = 0; i < plan->supply_count; i++) {
         if ((refused = read_type(reader, &plan->supplies[i]))) return refused;
@@ -114,13 +151,6 @@ struct names {
     uint64_t hashes[MOST_NODES];
     const uint8_t *starts[MOST_NODES];
 };
-
-static uint64_t eight_bytes(const uint8_t *bytes)
-{
-    uint64_t word;
-    memcpy(&word, bytes, sizeof word);
-    return word;
-}
 
 /* Whether some byte of the word is below 33 or above 126. */
 static int has_bad_letter(uint64_t word)

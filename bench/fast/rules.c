@@ -1,10 +1,10 @@
 /* Whether a plan value is fit: what document 01 asks of its fields, 2 to 7, and its "Rules beyond the bytes", 11 to 14, with whole parents as document 02 has
- * them in request 2. */
+ * them in request 2; and with misses what request 6 asks, 19 and 20. */
 #include "inner.h"
 
 #include <string.h>
 
-/* ---- 2 to 7 */
+/* ---- 2 to 7 and 19 */
 
 static uint64_t two_numbers(const uint32_t *numbers)
 {
@@ -18,7 +18,7 @@ static int unused_are_zeros(const struct plan *plan)
 {
     uint64_t any = 0;
     for (const struct node *node = plan->nodes + plan->node_count; node < plan->nodes + MOST_NODES; node++) {
-        any |= two_numbers(&node->kind) | two_numbers(&node->wanted.c) | two_numbers(&node->served.c);
+        any |= two_numbers(&node->kind) | two_numbers(&node->wanted.c) | two_numbers(&node->misses.d) | two_numbers(&node->served.c);
     }
     return any == 0;
 }
@@ -31,7 +31,8 @@ static int unused_are_within_fields(const struct plan *plan)
     if (unused_are_zeros(plan)) return over == 0;
     for (uint32_t i = plan->node_count; i < MOST_NODES; i++) {
         const struct node *node = &plan->nodes[i];
-        over |= (node->wanted.c | node->wanted.t | node->served.c | node->served.t) >> 16 | node->parent >> 8 | (node->kind > HOST);
+        over |= (node->wanted.c | node->wanted.t | node->misses.d | node->misses.w | node->served.c | node->served.t) >> 16;
+        over |= node->parent >> 8 | (node->kind > HOST);
     }
     return over == 0;
 }
@@ -45,9 +46,17 @@ static uint32_t depth_of(const struct plan *plan, uint32_t i, const uint8_t *dep
     return host < i && plan->nodes[host].kind == HOST ? depths[host] + 1u : 0;
 }
 
+/* A node of edition 1 has D 0 and W 1. */
+static int misses_are_of_the_edition(const struct plan *plan, const struct node *node)
+{
+    if (plan->edition == FIRST_EDITION) return node->misses.d == 0 && node->misses.w == 1;
+    return misses_are_sound(node);
+}
+
 static int is_sound(const struct plan *plan)
 {
     uint8_t depths[MOST_NODES];
+    if (plan->edition != FIRST_EDITION && plan->edition != SECOND_EDITION) return 0;
     if (!tick_is_sound(plan->p) || !tick_is_sound(plan->q)) return 0;
     if (plan->supply_count - 1 >= MOST_SUPPLIES || plan->node_count - 1 >= MOST_NODES) return 0;
     for (uint32_t i = 0; i < plan->supply_count; i++) {
@@ -57,15 +66,49 @@ static int is_sound(const struct plan *plan)
         const struct node *node = &plan->nodes[i];
         uint32_t depth = depth_of(plan, i, depths);
         if (node->kind > HOST || depth - 1 >= MOST_DEPTH || !type_is_sound(node->wanted) || !type_is_sound(node->served)) return 0;
+        if (!misses_are_of_the_edition(plan, node)) return 0;
         depths[i] = (uint8_t)depth;
     }
     return unused_are_within_fields(plan);
 }
 
-/* ---- 11 to 14 */
+/* ---- 11 to 14 and 20 */
 
+/* Hosts have D 0. */
+static int is_soft(const struct node *node)
+{
+    return node->misses.d > 0;
+}
+
+/* T / T', where that is exact, and otherwise 0. Nearly always T is T'. */
+static uint32_t windows_of_a_period(const struct node *node)
+{
+    uint32_t t = node->served.t, wanted_t = node->wanted.t;
+    if (t == wanted_t) return 1;
+    return t % wanted_t == 0 ? t / wanted_t : 0;
+}
+
+static int is_so_made(const struct node *node)
+{
+    return node->kind != SLIDING_LEAF && (windows_of_a_period(node) > 0 || node->wanted.t % node->served.t == 0);
+}
+
+/* Where T is K T', windows take the place of slots: of each K at least K - u are met, and any choice of u may be missed; so at most D of W are missed where
+ * (K - u, K) stands in for (W - D, W). A window is missed where it has C' - 1, which leaves T' - (C' - 1) of the T - C slots that need not be given. Where T
+ * divides T', all windows can miss or none. */
+static int soft_stands_in(const struct node *node)
+{
+    uint32_t d = node->misses.d, w = node->misses.w, k = windows_of_a_period(node);
+    if (d == w || node->wanted.c == 0) return 1;
+    if (k == 0) return node->wanted.t / node->served.t * node->served.c >= node->wanted.c;
+    uint32_t u = (node->served.t - node->served.c) / (node->wanted.t - (node->wanted.c - 1));
+    return u < k && fast_least_ones(0, (struct type){k - u, k}, 0, w) >= w - d;
+}
+
+/* What 20 and 11 ask of a node. */
 static int stands_in(const struct node *node)
 {
+    if (is_soft(node)) return is_so_made(node) && soft_stands_in(node);
     return fast_least_ones(0, node->served, node->kind == SLIDING_LEAF, node->wanted.t) >= node->wanted.c;
 }
 
@@ -181,7 +224,8 @@ uint64_t fast_first_broken(const struct plan *plan)
 {
     uint64_t refused = 0;
     for (uint32_t i = 0; i < plan->node_count; i++) {
-        if (!stands_in(&plan->nodes[i])) return refusal(DOES_NOT_STAND_IN, i);
+        const struct node *node = &plan->nodes[i];
+        if (!stands_in(node)) return refusal(is_soft(node) && !is_so_made(node) ? SOFT_LEAF_NOT_SO_MADE : DOES_NOT_STAND_IN, i);
     }
     for (uint32_t i = 0; !refused && i < plan->supply_count; i++) refused = first_at(plan, i, plan->supplies[i]);
     for (uint32_t i = 0; !refused && i < plan->node_count; i++) {

@@ -1,9 +1,9 @@
-/* A depot's night in C: reads a plan file and gives out its first eight slots, all cores supplied and nobody declining, with the setting off; then slot 0 alone
- * with the setting off and on, as it is where every leaf below a host declines.
+/* A depot's night in C: reads a plan file, tells its soft leaves, and gives out its first eight slots, all cores supplied and nobody declining, with the setting
+ * off; then slot 0 alone with the setting off and on, as it is where every leaf below a host declines.
  *
- *   depot FILE     prints a line for each slot: its number, its start in microseconds, and for each supply the name of the leaf that has the slot, or - where
- *                  it is idle. A refused plan prints its refusal: number, place and words. Ends with 0, with 1 where the plan is refused, and with 2 where
- *                  the file cannot be read. */
+ *   depot FILE     prints a line for each leaf that may miss windows: its name, and how many of how many; then a line for each slot: its number, its start in
+ *                  microseconds, and for each supply the name of the leaf that has the slot, or - where it is idle. A refused plan prints its refusal: number,
+ *                  place and words. Ends with 0, with 1 where the plan is refused, and with 2 where the file cannot be read. */
 #include "../../include/mettulos.h"
 
 #include <stdio.h>
@@ -50,11 +50,28 @@ static uint64_t find_names(void)
     return METTULOS_DONE;
 }
 
+static void print_name(size_t i)
+{
+    printf("%.*s", (int)names[i][METTULOS_NAME_LENGTH], (const char *)bytes + names[i][METTULOS_NAME_FIRST]);
+}
+
+/* Only soft leaves have a D above 0. */
+static void print_soft_leaves(void)
+{
+    for (size_t i = 0; i < plan[METTULOS_PLAN_NODES]; i++) {
+        const uint32_t *node = mettulos_node(plan, i);
+        if (node[METTULOS_NODE_D] == 0) continue;
+        print_name(i);
+        printf(" may miss %u of %u windows of %u slots\n", node[METTULOS_NODE_D], node[METTULOS_NODE_W], node[METTULOS_NODE_WANTED_T]);
+    }
+}
+
 static void print_grant(uint8_t grant)
 {
-    if (grant == METTULOS_IDLE) printf(" -");
-    else if (grant == METTULOS_NOT_SUPPLIED) printf(" x");
-    else printf(" %.*s", (int)names[grant][METTULOS_NAME_LENGTH], (const char *)bytes + names[grant][METTULOS_NAME_FIRST]);
+    printf(" ");
+    if (grant == METTULOS_IDLE) printf("-");
+    else if (grant == METTULOS_NOT_SUPPLIED) printf("x");
+    else print_name(grant);
 }
 
 /* Answers the refusal of the start, if there is one, and prints nothing then. */
@@ -106,6 +123,7 @@ int main(int argc, char **argv)
     if (!read_file(argv[1])) return 2;
     if ((refusal = mettulos_read(bytes, len, plan, METTULOS_PLAN))) return refused(refusal);
     if ((refusal = find_names())) return refused(refusal);
+    print_soft_leaves();
     if ((refusal = print_slots())) return refused(refusal);
     if ((refusal = print_first_slot("off: ", METTULOS_OFF))) return refused(refusal);
     if ((refusal = print_first_slot("on: ", METTULOS_ON))) return refused(refusal);

@@ -1,10 +1,12 @@
 // The answer of a check on a plan, and how answers join: document 01, "Refusal numbers". The first refusal counts, and what stands after it
 // is not looked at.
+#![tactic(auto)]
+
 ghost use Rattle.std.specs.Prelude.{◌≡◌};
 ghost use Rattle.answers.specs.Answers.{accepts, first, test};
 
 // Accepted, or a refusal with its number and place: `said` of specs/Answers.antt.
-#[derive(Drop)]
+#[derive(Clone, Copy)]
 pub enum Answer {
     Accepted,
     Refused { number: u8, place: usize },

@@ -1,4 +1,6 @@
 // Two small calls that the crates above share: whether both of two tests hold, and a small number as an index.
+#![tactic(auto)]
+
 ghost use Rattle.std.specs.Prelude.{◌≡◌, ◌&&◌};
 
 // Whether both hold.

@@ -1,6 +1,8 @@
 // The program of document 01: it reads standard input whole and prints the listing of the plan that it holds. The text is `listing::list`'s, which is
 // proved to be the one that crates/listing/specs/Text.antt defines; no contract can say what is read and written here.
 // Only the first 4,096 bytes are kept: what stands beyond byte 3,061 changes nothing (`LongerListed` of crates/listing).
+#![tactic(auto)]
+
 use listing::Listed;
 
 // So many more buffers of 4,096 bytes are read at most, since every loop has to end: 2^52 bytes.

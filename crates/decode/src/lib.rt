@@ -1,5 +1,7 @@
 // The plan value that bytes spell: where the parts of a plan file stand, and what they say. Document 01, "The plan file", and document 02, request 6. Bytes
 // of any length and content are taken; whether they are a plan is the reader's to say.
+#![tactic(auto)]
+
 ghost use Rattle.std.specs.Prelude.{◌≡◌, ◌≤◌, min, replicate};
 ghost use Rattle.plans.specs.Plan.{zero_type, zero_node};
 ghost use Rattle.decode.specs.Positions.{edition_of, further, cores_at, cores_of, size_of, nodes_at, names_at};
@@ -10,7 +12,7 @@ use plans::{Node, NodeKind, Plan};
 use ticks::Tick;
 
 // What a parent byte names.
-#[derive(Drop)]
+#[derive(Clone, Copy)]
 pub enum Named {
     Parent(plans::Parent),
     Nothing,

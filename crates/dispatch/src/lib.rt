@@ -1,5 +1,7 @@
 // Giving out slots: state, fresh start, run and step. Document 01, "Giving out slots". Plan value, state and buffers may hold anything: what does not
 // fit is refused by number, the state comes back as it was given, and nothing is written. The sentences are in specs/.
+#![tactic(auto)]
+
 ghost use Rattle.std.specs.Prelude.{◌≡◌, length};
 ghost use Rattle.dispatch.specs.Run.{standing, run_end, step_end, started, ran, out_after, stepped};
 
@@ -12,21 +14,21 @@ mod walks;
 use plans::Plan;
 
 // The switch: a slot that nobody under a host takes is wasted, or goes to the next sibling. Document 02, request 12.
-#[derive(Drop)]
+#[derive(Clone, Copy)]
 pub enum Setting {
     Off,
     On,
 }
 
 // The clock, and for each node the slots left in its current served period.
-#[derive(Drop)]
+#[derive(Clone, Copy)]
 pub struct State {
     pub clock: u64,
     pub left: [u16; 64],
 }
 
 // It was done, or a refusal: `said` of specs/Run.antt gives document 01's number for each.
-#[derive(Drop)]
+#[derive(Clone, Copy)]
 pub enum Outcome {
     Done,
     // A slot lies beyond 2^40.
@@ -38,14 +40,14 @@ pub enum Outcome {
 }
 
 // What a fresh start or a run hands back.
-#[derive(Drop)]
+#[derive(Clone, Copy)]
 pub struct Ran {
     pub outcome: Outcome,
     pub state: State,
 }
 
 // What a step hands back: eight answers, one for each supply.
-#[derive(Drop)]
+#[derive(Clone, Copy)]
 pub struct Stepped {
     pub outcome: Outcome,
     pub state: State,
@@ -53,21 +55,21 @@ pub struct Stepped {
 }
 
 // Whom a parent gives a slot to.
-#[derive(Drop)]
+#[derive(Clone, Copy)]
 pub enum Choice {
     Nobody,
     Child(usize),
 }
 
 // Where a walk ended: the leaf or 254, and the counts.
-#[derive(Drop)]
+#[derive(Clone, Copy)]
 pub struct Walked {
     pub grant: u8,
     pub left: [u16; 64],
 }
 
 // The answers and counts of a slot so far.
-#[derive(Drop)]
+#[derive(Clone, Copy)]
 pub struct Served {
     pub grants: [u8; 8],
     pub left: [u16; 64],

@@ -1,4 +1,6 @@
 // The greatest common divisor of two numbers, by Euclid's steps.
+#![tactic(auto)]
+
 ghost use Rattle.divisors.specs.Common.{Common};
 
 // Where one of the two is 0 it is the other.

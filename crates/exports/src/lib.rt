@@ -1,5 +1,7 @@
 // Mettulos for C: the functions of include/mettulos.h. Each takes the numbers apart, makes one call of a proved crate, and lays the answer down in the
 // slices that it was lent. What each answers and leaves in those slices is said in specs/Exports.antt; how values lie in numbers is said by crate numbers.
+#![tactic(auto)]
+
 ghost use Rattle.std.specs.Prelude.{◌≡◌};
 ghost use Rattle.exports.specs.Exports.{starting, minuting, slotting, deciding, reading, naming, freshening, stepping, running};
 

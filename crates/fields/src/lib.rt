@@ -1,5 +1,7 @@
 // The fields of a plan file: bytes, numbers of two and four bytes, types, misses, and whether a field is there. Document 01, "The plan file", and document
 // 02, request 6. Every call takes bytes of any length and any position: past the end a byte reads as 0.
+#![tactic(auto)]
+
 ghost use Rattle.std.specs.Prelude.{◌≡◌};
 ghost use Rattle.fields.specs.Fields.{byte_at, two_at, four_at, type_at, misses_at, there, check_type};
 

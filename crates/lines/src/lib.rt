@@ -1,6 +1,8 @@
 // Lines of text, their words, and the numbers and bytes that words spell: with this the programs that run vectors read their input.
 // Each call takes any bytes and any place among them: what is not there reads as an empty part or as 0.
 // The definitions that the contracts cite are in specs/Parts.antt and specs/Digits.antt.
+#![tactic(auto)]
+
 ghost use Rattle.std.specs.Prelude.{◌≡◌, cond, ◌++◌, ◌/◌, ◌<◌, min, ltb, length, get_or, drop};
 ghost use Rattle.lines.specs.Parts.{end_of, part_of, past_of};
 ghost use Rattle.lines.specs.Digits.{digit_of, longer_by, number_of, bytes_of};

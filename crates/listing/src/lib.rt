@@ -1,5 +1,7 @@
 // The text that lists a plan: document 01, the program `busplan`. An accepted plan's text has a line for each node and for each of the first eight
 // slots; a refused plan's text is one line. specs/Text.antt says it byte by byte.
+#![tactic(auto)]
+
 ghost use Rattle.std.specs.Prelude.{◌≡◌, true, ◌++◌, ◌≤◌, leb, length, take, drop};
 ghost use Rattle.rules.specs.Check.{is_fit};
 ghost use Rattle.listing.specs.Text.{accepted_text, refused_text, text, said, listed, out_after};
@@ -13,7 +15,7 @@ use answers::Answer;
 use plans::Plan;
 
 // The length of the text that was written, or there was too little room: `said` of specs/Text.antt.
-#[derive(Drop)]
+#[derive(Clone, Copy)]
 pub enum Listed {
     Written(usize),
     Short,

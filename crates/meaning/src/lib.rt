@@ -2,26 +2,28 @@
 // A type asks for C slots in T; a soft one lets D of every W windows miss them (document 02, request 6). Allocations, and what it is to honour a type or
 // to stand in for one, are definitions of specs/.
 // The decision on pairs of types stands in the crate `types`.
+#![tactic(auto)]
+
 ghost use Rattle.std.specs.Prelude.{◌≡◌};
 ghost use Rattle.meaning.specs.Types.{ranged, well_formed};
 ghost use Rattle.meaning.specs.Soft.{within_range};
 
 // C slots in T. The numbers may be anything that sixteen bits hold.
-#[derive(Drop)]
+#[derive(Clone, Copy)]
 pub struct SlotType {
     pub c: u16,
     pub t: u16,
 }
 
 // Misses allowed: D of every W wanted windows. The numbers may be anything that sixteen bits hold.
-#[derive(Drop)]
+#[derive(Clone, Copy)]
 pub struct Misses {
     pub d: u16,
     pub w: u16,
 }
 
 // Aligned: windows start at multiples of T (the paper's weak). Sliding: windows start anywhere (its strong).
-#[derive(Drop)]
+#[derive(Clone, Copy)]
 pub enum Kind {
     Aligned,
     Sliding,

@@ -1,4 +1,6 @@
 // The names of a plan file: their count, lengths and bytes, and that no name occurs twice. Document 01, "The plan file", part 4.
+#![tactic(auto)]
+
 ghost use Rattle.std.specs.Prelude.{◌≡◌, ◌+◌, ◌*◌, ◌≤◌, min};
 ghost use Rattle.answers.specs.Answers.{each};
 ghost use Rattle.decode.specs.Positions.{size_of, name_start, end_at};

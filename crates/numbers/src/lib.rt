@@ -1,5 +1,7 @@
 // A plan value as 533 numbers and a state as 65, as include/mettulos.h says: taken from a slice of numbers, and laid down in one. A slice may hold
 // anything: numbers that are no value's give a value of zeros, and what has no place is not laid down. specs/Numbers.antt says how each value lies.
+#![tactic(auto)]
+
 ghost use Rattle.std.specs.Prelude.{◌≡◌};
 ghost use Rattle.dispatch.specs.Run.{standing};
 ghost use Rattle.numbers.specs.Numbers.{plan_of_numbers, plan_laid, state_given, state_laid};
@@ -12,7 +14,7 @@ use dispatch::State;
 use plans::Plan;
 
 // Whether numbers are a state's, and the state that they say, of zeros where they are none's.
-#[derive(Drop)]
+#[derive(Clone, Copy)]
 pub struct Given {
     pub fit: bool,
     pub state: State,

@@ -1,6 +1,8 @@
 // The plan value, and refusals 2 to 7 and 19 on a value: document 01, "The plan file" and "The shape we want in each place", and document 02, request 6. A
 // value may hold anything: counts up to the largest number, parents that point anywhere, malformed types, any edition. Entries past the counts are zeros,
 // and ignored.
+#![tactic(auto)]
+
 ghost use Rattle.std.specs.Prelude.{◌≡◌};
 ghost use Rattle.plans.specs.Plan.{zero_plan};
 
@@ -14,20 +16,20 @@ pub use soundness::{are_misses_borne, is_count, is_edition, is_sound};
 use ticks::Tick;
 pub use tree::{is_child, is_parent_allowed, is_within};
 
-#[derive(Drop)]
+#[derive(Clone, Copy)]
 pub enum NodeKind {
     AlignedLeaf,
     SlidingLeaf,
     Host,
 }
 
-#[derive(Drop)]
+#[derive(Clone, Copy)]
 pub enum Parent {
     Supply(u8),
     Node(u8),
 }
 
-#[derive(Drop)]
+#[derive(Clone, Copy)]
 pub struct Node {
     pub kind: NodeKind,
     pub parent: Parent,
@@ -37,7 +39,7 @@ pub struct Node {
 }
 
 // `edition` is that of the plan file, `cores` the number of supplies, `size` the number of nodes.
-#[derive(Drop)]
+#[derive(Clone, Copy)]
 pub struct Plan {
     pub edition: u8,
     pub tick: Tick,

@@ -1,5 +1,7 @@
 // Plan bytes of any length and content to an answer and a plan value: document 01, "The plan file" and "Refusal numbers". The bytes are checked
 // from the front, each field when it has been read, and then the rules. specs/Read.antt says it field by field.
+#![tactic(auto)]
+
 ghost use Rattle.std.specs.Prelude.{◌≡◌};
 ghost use Rattle.reader.specs.Read.{check_bytes, read_plan, name_of, name_place};
 ghost use Rattle.reader.specs.Part.{PartAt};
@@ -11,7 +13,7 @@ use answers::Answer;
 use plans::Plan;
 
 // The answer, and the plan value where it is accepted; else the value of zeros.
-#[derive(Drop)]
+#[derive(Clone, Copy)]
 pub struct Reading {
     pub answer: Answer,
     pub plan: Plan,

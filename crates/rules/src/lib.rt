@@ -1,6 +1,8 @@
 // Rules 11 to 14 and 20 on a plan value: document 01, "Rules beyond the bytes" and the order of "Refusal numbers", with document 02, requests 2 and 6. Any
 // value may be asked about.
 // Fit says what it is to keep them and Broken which breach comes first (specs/); the calls below are held to Check.
+#![tactic(auto)]
+
 ghost use Rattle.std.specs.Prelude.{◌≡◌};
 ghost use Rattle.rules.specs.Check.{checked, is_fit};
 

@@ -1,6 +1,8 @@
 // Misses allowed: document 02, request 6. Whether no stretch of W wanted windows can lose more than D of them, whatever the served type gives.
 // Windows take the place of slots: a served period of K windows can lose u of them, so the question is whether (K − u, K) stands in for (W − D, W), aligned,
 // which the decision on pairs answers with no loop over stretches. The formula is in specs/Formula.antt, and what it means in specs/Promises.antt.
+#![tactic(auto)]
+
 ghost use Rattle.std.specs.Prelude.{◌≡◌, true};
 ghost use Rattle.meaning.specs.Types.{well_formed};
 ghost use Rattle.meaning.specs.Soft.{within_range};

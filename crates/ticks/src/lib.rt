@@ -1,18 +1,20 @@
 // Slot times, from the exact fraction: document 01, "Slot times". A slot lasts P/Q microseconds, and no length is ever rounded
 // before it is multiplied. Each call takes the tick by value and any number, and answers the number asked for or a refusal.
 // The definitions that the contracts cite are in specs/Times.antt, and what follows from them is promised in specs/Promises.antt.
+#![tactic(auto)]
+
 ghost use Rattle.std.specs.Prelude.{◌≡◌, ◌*◌, ◌/◌, ◌^◌, ◌<◌};
 ghost use Rattle.ticks.specs.Times.{begins, in_range, is_fit, limited, per_minute, said, SlotSays, timed};
 
 // A slot lasts p/q microseconds. The numbers may be anything that 32 bits hold.
-#[derive(Drop)]
+#[derive(Clone, Copy)]
 pub struct Tick {
     pub p: u32,
     pub q: u32,
 }
 
 // The number asked for, or a refusal: `said` of specs/Times.antt gives document 01's number for each.
-#[derive(Drop)]
+#[derive(Clone, Copy)]
 pub enum Answer {
     Number(u64),
     // A slot, a time or an answer lies beyond 2^40.

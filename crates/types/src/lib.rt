@@ -1,6 +1,8 @@
 // The decision on pairs of types: document 01, "Types and what they mean". One type may stand in for another exactly when every allocation that
 // honours the first honours the second. A pair that holds is decided with no loop over starts; only a failing pair looks for its first window.
 // What the answers say is in specs/Verdict.antt and specs/Decision.antt, and what that means in specs/Promises.antt.
+#![tactic(auto)]
+
 ghost use Rattle.std.specs.Prelude.{◌≡◌, length};
 ghost use Rattle.types.specs.Verdict.{said, judged};
 ghost use Rattle.types.specs.Decision.{said_of, decided, out_after};
@@ -11,7 +13,7 @@ mod least;
 use meaning::{Kind, SlotType};
 
 // Whether a giver stands in for a wanted type, with the least number of ones that a wanted window can have.
-#[derive(Drop)]
+#[derive(Clone, Copy)]
 pub enum Verdict {
     Holds(u16),
     Short(u16),
@@ -19,7 +21,7 @@ pub enum Verdict {
 }
 
 // The same with the first window that falls short: its start, its ones, and the length of the stretch that was written.
-#[derive(Drop)]
+#[derive(Clone, Copy)]
 pub enum Decision {
     Holds(u16),
     Fails { start: u32, ones: u16, length: u32 },

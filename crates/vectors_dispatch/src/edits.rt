@@ -6,7 +6,7 @@ use meaning::{Misses, SlotType};
 use plans::{Node, NodeKind, Parent, Plan};
 
 // What a case has so far, and where its words go on.
-#[derive(Drop)]
+#[derive(Clone, Copy)]
 pub struct Case {
     pub plan: Plan,
     pub state: State,
@@ -14,7 +14,7 @@ pub struct Case {
 }
 
 // The first letter of what is changed, where, and to what: a number, or the two numbers of a type or of what may be missed.
-#[derive(Drop)]
+#[derive(Clone, Copy)]
 pub struct Edit {
     pub what: u8,
     pub index: u64,

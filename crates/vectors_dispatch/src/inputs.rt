@@ -4,7 +4,7 @@ ghost use Rattle.std.specs.Prelude.{◌≤◌, length};
 use dispatch::Setting;
 
 // Where the words after what is done begin.
-#[derive(Drop)]
+#[derive(Clone, Copy)]
 pub struct Words {
     pub setting: usize,
     pub supplies: usize,

@@ -1,6 +1,8 @@
 // Gives out slots by `dispatch` as standard input asks, and prints what comes of it, a line a case: a label, a plan in hex, any number of edits
 // `with left 1 2`, and what is done, as `run on ff01 0,4 2`: setting, supply bytes, decline words and room. tools/slots.py says it in full.
 // What it must print is worked out from documents 01 and 02, by `python3 tools/slots.py expect`; `python3 tools/slots.py cases` makes its input.
+#![tactic(auto)]
+
 mod calls;
 mod edits;
 mod inputs;

@@ -2,6 +2,8 @@
 // what comes of a room that is one byte short.
 // The plans are those of examples/. What it must print is worked out from documents 01 and 02, by `python3 tools/listing.py expect`;
 // `python3 tools/listing.py plans` makes its input.
+#![tactic(auto)]
+
 use listing::Listed;
 
 fn main() {

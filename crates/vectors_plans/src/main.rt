@@ -1,6 +1,8 @@
 // Reads the plan files of standard input and prints what `reader` says of each, a line a file: `example 01e8.. 3` is a label, the bytes in hex, and,
 // where it stands there, a node whose name is asked for besides those of an accepted plan. In edition 2 a node's D and W stand behind its name.
 // What it must print is worked out from documents 01 and 02, by `python3 tools/plans.py expect`; `python3 tools/plans.py vectors` makes its input.
+#![tactic(auto)]
+
 mod show;
 
 use plans::{Node, Plan};

@@ -1,5 +1,7 @@
 // Asks the slot times at their edges and prints one case a line: `CALL P/Q of N: ` and the number, or `refused` and its number.
 // What it must print is worked out by tools/times.py from the sentences of document 01, "Slot times".
+#![tactic(auto)]
+
 use ticks::{Answer, Tick};
 
 // 2^40, the last slot and the last time.

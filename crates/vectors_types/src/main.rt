@@ -1,6 +1,8 @@
 // Runs the calls of `types` on the pairs of standard input and prints what each says, a line a pair: `aligned 1 4 aligned 1 5` is decided with
 // room for any stretch, `.. room 8` with a buffer of 8 bytes that is printed whole afterwards, and `.. judge` is judged.
 // What it must print is worked out from the meaning of types, by `python3 tools/pairs.py file crates/vectors_types/stdin`.
+#![tactic(auto)]
+
 mod show;
 mod sides;
 

@@ -2,7 +2,7 @@
 use meaning::{Kind, SlotType};
 
 // One side of a pair, and where the word after it starts.
-#[derive(Drop)]
+#[derive(Clone, Copy)]
 pub struct Side {
     pub kind: Kind,
     pub slots: SlotType,

@@ -2,7 +2,6 @@
 -- Assumes nothing.
 use Prim.Native.Nat.{ℕ, zero, suc, ◌+◌, ◌≤◌, ◌<◌}
 use mathlib.Core.Bool.{Bool, true, false, cond}
-use mathlib.Core.List.{[], ◌∷◌}
 use mathlib.Core.Logic.{◌⊎◌, inl, inr}
 use mathlib.Core.Path.{◌≡◌, refl, sym, ap, ◌∙◌}
 use native.Mathlib.Nat.{le_antisymm, eq-or-lt_of_le}
@@ -10,16 +9,13 @@ use native.Mathlib.Numerals.{add-one}
 use native.Mathlib.Omega.{arith}
 use lib.Dec.{eqb}
 use borrow.Author.Tests.{eqb-true, ne_eqb}
-use denote.Enum.Declared.{tag_of}
-use types.Run.{OneOf}
-use Rattle.answers.specs.contracts.Answer.{the_type}
 use Rattle.answers.specs.Answers.{Place, none, at as place, nowhere, placed, accepted, refused as refuses, said, accepts, first, test, each}
 use Rattle.answers.specs.declared.Answer.{Answer}
 use Rattle.answers.specs.declared.Answer.TheVariants.{Accepted, Refused}
 
 -- an answer is a refusal, as the `else` of a `let Answer::Accepted = a` finds it
 abbrev pub Refusal : Answer → Type 0
-Refusal a = OneOf (1 ∷ []) (tag_of the_type a)
+Refusal a = a ≡ Accepted → ⊥
 
 -- the number that stands for a place
 abbrev pub unplaced : ℕ → Place → ℕ
@@ -212,7 +208,7 @@ module _ (f : ℕ → Answer) where
 
 -- a refusal has a number and a place
 refusal : (a : Answer) → Refusal a → (r : ℕ) × (k : ℕ) × (a ≡ Refused r k)
-refusal Accepted h = absurd (omega arith)
+refusal Accepted h = absurd (h refl)
 refusal (Refused r k) h = (r, k, refl)
 
 -- Checks one after another, each by `let Answer::Accepted = a else { return a; };`, where x is what a is held to and y is what follows. A refusal

@@ -136,7 +136,7 @@ range_left clock k most =
 
 -- an outcome is a refusal, as the `else` of a `let Outcome::Done = outcome` finds it
 abbrev pub Refusal : Outcome → Type 0
-Refusal o = OneOf (1 ∷ 2 ∷ 3 ∷ []) (tag_of the_type o)
+Refusal o = o ≡ Done → ⊥
 
 -- a run that is done passed its three tests
 pub done_tests : (plan : Plan) (state : Standing) (k declines room : ℕ) → outcome plan state k declines room ≡ done →

@@ -167,7 +167,7 @@ found_set setting c is h = sym is ∙ h
 
 -- a refusal leaves the state as it was
 pub keep_refused : (o : Outcome) → Refusal o → (after : State) (lent : List ℕ) (x : ℕ) → x ≡ outcome_of (said o) → (x, lent) ≡ keeping (said o) (standing after) lent
-keep_refused Done h after lent x e = absurd (miss (1 ∷ 2 ∷ 3 ∷ []) 0 tt h)
+keep_refused Done h after lent x e = absurd (h refl)
 keep_refused Beyond h after lent x e = rw e
 keep_refused Unfit h after lent x e = rw e
 keep_refused Misfit h after lent x e = rw e

@@ -26,7 +26,7 @@ use Rattle.reader.proofs.Spelled.{spelled_sound}
 -- a refusal does not accept
 pub not_accepted : (a : Answer) → Refusal a → false ≡ accepts a
 unfolding accepts
-not_accepted Accepted h = absurd (omega arith)
+not_accepted Accepted h = absurd (h refl)
 not_accepted (Refused r k) h = refl
 
 module _ (s : List ℕ) where

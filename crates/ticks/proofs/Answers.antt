@@ -1,17 +1,12 @@
 -- How the tests of the calls lead to each answer: one law a return. Assumes nothing.
 use Prim.Native.Nat.{ℕ, ◌+◌, ◌*◌, ◌/◌, ◌^◌, ◌≤◌, ◌<◌}
 use mathlib.Core.Bool.{Bool, true, false, and-eq-true_iff, cond}
-use mathlib.Core.List.{[], ◌∷◌}
-use mathlib.Core.Logic.{inl, inr}
 use mathlib.Core.Path.{◌≡◌, refl, sym, ap, ◌∙◌}
 use lib.Dec.{leb}
 use borrow.Author.Tests.{le-leb, lt-leb, leb-true}
-use denote.Enum.Declared.{tag_of}
-use types.Run.{OneOf}
 use mir.Val.{Fits}
 use mir.Syntax.{w64}
 use native.Mathlib.Omega.{arith}
-use Rattle.ticks.specs.contracts.Answer.{the_type}
 use Rattle.ticks.proofs.Arithmetic.{product_small}
 use Rattle.ticks.specs.Times.{in_range, is_fit, begins, Said, number, refused, said, limited, timed, per_minute}
 use Rattle.ticks.specs.declared.Answer.{Answer}
@@ -82,12 +77,11 @@ fit tick e =
 
 -- an answer is no number, as the `else` of a `let Answer::Number(_) = a` finds it
 abbrev pub Refusal : Answer → Type 0
-Refusal a = OneOf (1 ∷ 2 ∷ []) (tag_of the_type a)
+Refusal a = (v : ℕ) → a ≡ Number v → ⊥
 
 -- a refusal says no number: one that did would say anything
 no_number : (a : Answer) → Refusal a → (v : ℕ) → said a ≡ number v → (s : Said) → said a ≡ s
-no_number (Number m) (inl h) v e s = cc
-no_number (Number m) (inr h) v e s = cc
+no_number (Number m) h v e s = absurd (h m refl)
 no_number Beyond h v e s = cc
 no_number Unfit h v e s = cc
 

@@ -1,6 +1,6 @@
 -- A node of a sound plan is on one core, the one that is met going up. Assumes nothing.
 use Prim.Native.Nat.{ℕ, zero, suc, ◌≤◌, ◌<◌}
-use mathlib.Core.Path.{◌≡◌, refl, subst}
+use mathlib.Core.Path.{◌≡◌, subst}
 use native.Mathlib.Omega.{arith}
 use Rattle.plans.proofs.Depth.{depth_positive}
 use Rattle.plans.proofs.Parents.{node_depth, supply_there, host_there}
@@ -9,7 +9,7 @@ use Rattle.plans.specs.Sound.{Depth, top, under, Sound}
 use Rattle.plans.specs.Cores.{Beneath, child, deeper, OnCore, upward, core_to, core_of}
 use Rattle.plans.specs.Promises.{CoreExactly}
 use Rattle.plans.specs.declared.Parent.{Parent}
-use Rattle.plans.specs.declared.Parent.TheVariants.{Supply, Node as Under}
+use Rattle.plans.specs.declared.Parent.TheVariants.{Node as Under}
 use Rattle.plans.specs.declared.Plan.{Plan}
 
 module _ (plan : Plan) where
@@ -26,7 +26,7 @@ module _ (plan : Plan) where
   core_met (suc k) (under up a) l = rw up (deeper up (core_met k a (omega arith)))
 
   -- a node is on one core only
-  pub one_core : {i s z : ℕ} → OnCore plan i s → OnCore plan i z → s ≡ z
+  pub one_core : {s i z : ℕ} → OnCore plan i s → OnCore plan i z → s ≡ z
   one_core (child p) (child q) = cc
   one_core (child p) (deeper q b) = cc
   one_core (deeper p a) (child q) = cc
@@ -35,7 +35,7 @@ module _ (plan : Plan) where
       one_core a (subst (λ x. OnCore plan x z) here b)
 
   -- and in a sound plan that core is there
-  core_there : Sound plan → {i s : ℕ} → i < plan.size → OnCore plan i s → s < plan.cores
+  core_there : Sound plan → {s i : ℕ} → i < plan.size → OnCore plan i s → s < plan.cores
   core_there sound {i = i} l (child up) = supply_there plan sound i l _ up
   core_there sound {i = i} l (deeper up b) = core_there sound (host_there plan sound i l _ up) b
 

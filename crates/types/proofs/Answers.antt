@@ -1,11 +1,11 @@
 -- How the tests of the calls lead to each answer and to the buffer's bytes: one law a return. Assumes nothing.
 use Prim.Native.Nat.{ℕ, ◌-◌, ◌≤◌, ◌<◌}
-use mathlib.Core.Bool.{Bool, true, false, not, cond}
+use mathlib.Core.Bool.{Bool, true, false, cond}
 use mathlib.Core.List.{List, ◌++◌}
 use mathlib.Core.Path.{◌≡◌, refl, sym, ◌∙◌}
 use lib.Dec.{leb}
 use lib.ListN.{length, drop}
-use borrow.Author.Tests.{le-leb, lt-leb, not-false}
+use borrow.Author.Tests.{le-leb, lt-leb}
 use Rattle.meaning.specs.Types.{well_formed}
 use Rattle.meaning.specs.Written.{written, stretch_from, stretch_to}
 use Rattle.meaning.specs.declared.SlotType.{SlotType}
@@ -46,8 +46,8 @@ module _ (giver wanted : SlotType) (s from to : ℕ) (first : from ≡ stretch_f
     shown_written out now h e = rw (← (shown (length out) (ones_from giver wanted s) h refl), e, first)
 
 -- what a test of a type says, as the callees require it
-pub formed : (a : SlotType) (r : Bool) → r ≡ well_formed a → not r ≡ false → well_formed a ≡ true
-formed a r e h = sym e ∙ not-false r h
+pub formed : (a : SlotType) (r : Bool) → r ≡ well_formed a → r ≡ true → well_formed a ≡ true
+formed a r e h = sym e ∙ h
 
 -- a pair's verdict, where r and q tell whether the types are well formed and m is the least ones
 module _ (gives : Kind) (giver : SlotType) (wants : Kind) (wanted : SlotType) (r : Bool) (e : r ≡ well_formed giver) where

@@ -1,11 +1,11 @@
 -- How the tests of the calls lead to each answer: one law a return. Assumes nothing.
 use Prim.Native.Nat.{ℕ, ◌-◌, ◌*◌, ◌/◌, ◌%◌, ◌≤◌, ◌<◌}
-use mathlib.Core.Bool.{Bool, true, false, not}
+use mathlib.Core.Bool.{Bool, true, false}
 use mathlib.Core.Path.{◌≡◌, sym, ◌∙◌}
 use native.Mathlib.Nat.{div-mul-le_self, mul-le-mul_left}
 use native.Mathlib.Omega.{arith}
 use lib.Dec.{eqb}
-use borrow.Author.Tests.{lt-ltb, le-ltb, not-false}
+use borrow.Author.Tests.{lt-ltb, le-ltb}
 use Rattle.meaning.specs.Types.{well_formed}
 use Rattle.meaning.specs.Soft.{within_range}
 use Rattle.meaning.specs.declared.SlotType.{SlotType}
@@ -113,5 +113,5 @@ pub misses_fit : (misses : Misses) → within_range misses ≡ true → misses.d
 misses_fit misses h = (within_bounds misses h).fits
 
 -- misses within their range, as the test says
-pub ranged : (misses : Misses) (r : Bool) → r ≡ within_range misses → not r ≡ false → within_range misses ≡ true
-ranged misses r e h = sym e ∙ not-false r h
+pub ranged : (misses : Misses) (r : Bool) → r ≡ within_range misses → r ≡ true → within_range misses ≡ true
+ranged misses r e h = sym e ∙ h

@@ -1,18 +1,15 @@
 -- The refusals of fresh starts, runs and steps: what is known of a plan and a state that are fit, and one law a return. Assumes nothing.
 use Prim.Native.Nat.{ℕ, ◌+◌, ◌*◌, ◌-◌, ◌/◌, ◌^◌, ◌≤◌, ◌<◌}
 use mathlib.Core.Bool.{Bool, true, false, cond, ◌&&◌}
-use mathlib.Core.List.{List, [], ◌∷◌}
+use mathlib.Core.List.{List}
 use mathlib.Core.Path.{◌≡◌, refl, sym, ap, ◌∙◌}
 use lib.Dec.{leb, eqb}
 use lib.ListN.{replicate}
 use borrow.Author.Tests.{leb-true, leb-false, le-leb, lt-leb, eqb-true}
 use native.Mathlib.Nat.{le-div_iff_mul-le, div-lt_iff_lt-mul}
 use native.Mathlib.Omega.{arith}
-use denote.Enum.Declared.{tag_of}
 use mir.Syntax.{w64}
 use mir.Val.{Fits}
-use types.Run.{OneOf}
-use Rattle.dispatch.specs.contracts.Outcome.{the_type}
 use Rattle.answers.specs.Answers.{accepts, nowhere}
 use Rattle.answers.specs.declared.Answer.TheVariants.{Refused}
 use Rattle.plans.proofs.All.{left_true, right_true}

@@ -8,7 +8,6 @@ use lib.Seq.{get_or-set_same, get_or-set_other, set_out}
 use borrow.Author.Tests.{eq-eqb, ne_eqb}
 use native.Mathlib.Decide.{ℕ_discrete, dec_lt}
 use native.Mathlib.Omega.{arith}
-use Rattle.plans.specs.declared.Parent.TheVariants.{Node as Under}
 use Rattle.dispatch.specs.View.{View}
 use Rattle.dispatch.specs.Slot.{due, refill_one, refill_to, refilled, charge}
 

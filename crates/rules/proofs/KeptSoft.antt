@@ -1,14 +1,13 @@
 -- Hard nodes and soft leaves: that rule 11 of a hard node is document 01's, and how the tests of a soft leaf decide. Assumes nothing.
-use Prim.Native.Nat.{ℕ, ◌%◌, ◌≤◌, ◌<◌}
+use Prim.Native.Nat.{ℕ, ◌%◌, ◌<◌}
 use mathlib.Core.Bool.{Bool, true, false, not, ◌&&◌, true≢false, false≢true}
-use mathlib.Core.Logic.{◌⊎◌, ◌↔◌, ⊎_swap}
+use mathlib.Core.Logic.{◌⊎◌, ◌↔◌}
 use mathlib.Core.Path.{◌≡◌, refl, sym, ap, ◌∙◌}
-use lib.Dec.{ltb, eqb}
+use lib.Dec.{ltb}
 use borrow.Author.Tests.{lt-ltb, ltb-false}
 use native.Mathlib.Omega.{arith}
 use Rattle.meaning.specs.Types.{well_formed}
 use Rattle.meaning.specs.Soft.{within_range, StandsInSoft}
-use Rattle.meaning.specs.declared.SlotType.{SlotType}
 use Rattle.meaning.specs.declared.Kind.TheVariants.{Aligned}
 use Rattle.meaning.proofs.WellFormed.{bounds, within_bounds}
 use Rattle.soft.specs.Formula.{divides, divided, allowed}

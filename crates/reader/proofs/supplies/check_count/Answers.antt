@@ -1,0 +1,11 @@
+-- `reader::supplies::check_count` meets its contract: it stops where the byte is not there, and else its test decides. Assumes nothing.
+use Rattle.answers.proofs.Laws.{first_stop, first_past}
+use Rattle.fields.proofs.Answers.{tested_as}
+use Rattle.reader.proofs.Checks.{count_from}
+use Rattle.reader.proofs.supplies.check_count.Goals as goal
+
+pub returns-in_default : goal.returns-in_default
+returns-in_default c = search (count_from, first_stop, c.in_default.not-Accepted)
+
+pub returns : goal.returns
+returns c = search (count_from, first_past, tested_as)

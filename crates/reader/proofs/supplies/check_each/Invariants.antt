@@ -1,0 +1,13 @@
+-- `reader::supplies::check_each` meets its contract. The invariant: the supplies passed are accepted. Assumes nothing.
+use Prim.Native.Nat.{◌-◌, ◌≤◌}
+use mathlib.Core.Path.{◌≡◌}
+use Rattle.answers.specs.Answers.{each}
+use Rattle.answers.specs.declared.Answer.TheVariants.{Accepted}
+use Rattle.reader.specs.Read.{check_supply}
+use Rattle.reader.proofs.supplies.check_each.Given as goal
+
+abbrev pub invariant-loop-i : goal.invariant-loop-i
+invariant-loop-i l = (l.i ≤ l.n) × (each (check_supply l.s) l.i ≡ Accepted)
+
+abbrev pub decreases-loop-i : goal.decreases-loop-i
+decreases-loop-i l = l.n - l.i

@@ -1,0 +1,10 @@
+-- `reader::supplies::check_spare` meets its contract: it stops where the byte is not there, and else its test decides. Assumes nothing.
+use Rattle.answers.proofs.Laws.{first_stop, first_past}
+use Rattle.reader.proofs.Checks.{spare_from}
+use Rattle.reader.proofs.supplies.check_spare.Goals as goal
+
+pub returns-in_default : goal.returns-in_default
+returns-in_default c = search (spare_from, first_stop, c.in_default.not-Accepted)
+
+pub returns : goal.returns
+returns c = search (spare_from, first_past)

@@ -1,7 +1,7 @@
 // Makes the calls of `dispatch` and prints their results.
 use crate::edits::Case;
 use crate::inputs::Words;
-use crate::{inputs, show, windows};
+use crate::{inputs, leaves, show};
 use std::io;
 
 pub fn fresh(rt: &impl Print, case: Case) -> io::Result<()> {
@@ -56,7 +56,7 @@ fn run_on(
     print!(rt; ", room")?;
     show::answers(rt, out, case.plan.cores)?;
     if demand {
-        windows::all(rt, case.plan, out)?;
+        leaves::all(rt, case.plan, out)?;
     }
     Ok(())
 }

@@ -6,9 +6,9 @@
 mod calls;
 mod edits;
 mod inputs;
+mod leaves;
 mod mixed;
 mod show;
-mod windows;
 
 use edits::Case;
 use std::io;

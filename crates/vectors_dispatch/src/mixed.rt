@@ -3,7 +3,7 @@ ghost use Rattle.std.specs.Prelude.{◌<◌, ◌≤◌, length};
 
 use crate::edits::Case;
 use crate::inputs::Words;
-use crate::{inputs, show, windows};
+use crate::{inputs, leaves, show};
 use dispatch::{Setting, State};
 use plans::Plan;
 use std::io;
@@ -44,7 +44,7 @@ fn mixed_on(
     show::state(rt, state, case.plan.size)?;
     print!(rt; ", room")?;
     show::answers(rt, out, case.plan.cores)?;
-    windows::all(rt, case.plan, out)
+    leaves::all(rt, case.plan, out)
 }
 
 // A call for each stretch of slots that have one setting, each from the state that the one before handed back and into the room behind its answers. Hands

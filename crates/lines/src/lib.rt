@@ -1,5 +1,5 @@
 // Lines of text, their words, and the numbers and bytes that words spell: with this the programs that run vectors read their input.
-// Each call takes any bytes and any place among them: what is not there reads as an empty part or as 0.
+// Each call on bytes takes any bytes and any place among them: what is not there reads as an empty part or as 0.
 // The definitions that the contracts cite are in specs/Parts.antt and specs/Digits.antt.
 #![tactic(auto)]
 

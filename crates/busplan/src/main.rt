@@ -4,34 +4,36 @@
 #![tactic(auto)]
 
 use listing::Listed;
+use std::io;
+use std::io::Read;
 
 // So many more buffers of 4,096 bytes are read at most, since every loop has to end: 2^52 bytes.
 const MOST: u64 = 1099511627776;
 
-fn main() {
-    let mut plan = io::buffer();
-    let n = io::read_full(libc::STDIN_FILENO, &mut plan);
-    read_rest();
-    let mut room = io::buffer();
-    print(&plan[..n], &mut room);
+fn main(rt: HostRuntime) -> io::Result<()> {
+    let mut input = rt.reader();
+    let mut plan = [0u8; 4096];
+    let n = lines::read_full(&mut input, &mut plan)?;
+    read_rest(&mut input)?;
+    let mut room = [0u8; 4096];
+    print(&rt, &plan[..n], &mut room)
 }
 
-// Reads to the end of standard input, so that whoever writes there can write all of it.
-fn read_rest() {
-    let mut rest = io::buffer();
+// Reads to the end of the input, so that whoever writes there can write all of it.
+fn read_rest(input: &mut impl Read) -> io::Result<()> {
+    let mut rest = [0u8; 4096];
     for _ in 0..MOST {
-        if io::read_full(libc::STDIN_FILENO, &mut rest) < rest.len() {
+        if lines::read_full(input, &mut rest)? < rest.len() {
             break;
         }
     }
+    Ok(())
 }
 
 // Prints the listing of a plan, by way of a room: one of 3,708 bytes always suffices.
-fn print(plan: &[u8], room: &mut [u8]) {
+fn print(rt: &impl Print, plan: &[u8], room: &mut [u8]) -> io::Result<()> {
     match listing::list(plan, room) {
-        Listed::Written(n) => {
-            io::write_all(libc::STDOUT_FILENO, &room[0..n]);
-        }
-        Listed::Short => {}
+        Listed::Written(n) => rt.write_all(&room[0..n]),
+        Listed::Short => Ok(()),
     }
 }

@@ -1,11 +1,14 @@
 // Lines of text, their words, and the numbers and bytes that words spell: with this the programs that run vectors read their input.
-// Each call takes any bytes and any place among them: what is not there reads as an empty part or as 0.
+// Each call on bytes takes any bytes and any place among them: what is not there reads as an empty part or as 0.
 // The definitions that the contracts cite are in specs/Parts.antt and specs/Digits.antt.
 #![tactic(auto)]
 
-ghost use Rattle.std.specs.Prelude.{◌≡◌, cond, ◌++◌, ◌/◌, ◌<◌, min, ltb, length, get_or, drop};
+ghost use Rattle.std.specs.Prelude.{◌≡◌, cond, ◌++◌, ◌/◌, ◌<◌, ◌≤◌, min, ltb, length, get_or, drop, IfOk};
 ghost use Rattle.lines.specs.Parts.{end_of, part_of, past_of};
 ghost use Rattle.lines.specs.Digits.{digit_of, longer_by, number_of, bytes_of};
+
+use std::io;
+use std::io::Read;
 
 // The bytes from `at` on up to the first that is at most `stop`: a line for b'\n', a word for b' ', which a line's end ends too.
 pub fn part(s: &[u8], at: usize, stop: u8) -> &[u8]
@@ -117,4 +120,19 @@ pub fn sixteen(n: u64) -> u16
     ensures { result ≡ cond (ltb n 65536) n 0 }
 {
     if n < 65536 { n as u16 } else { 0 }
+}
+
+// Reads until `room` is full or the input ends, and says how many bytes of it are filled.
+pub fn read_full(input: &mut impl Read, room: &mut [u8]) -> io::Result<usize>
+    ensures { IfOk result (λ n. n ≤ length room.new) }
+{
+    let mut done: usize = 0;
+    while done < room.len() {
+        let n = input.read(&mut room[done..])?;
+        if n == 0 {
+            break;
+        }
+        done += n;
+    }
+    Ok(done)
 }

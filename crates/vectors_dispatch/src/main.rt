@@ -6,16 +6,17 @@
 mod calls;
 mod edits;
 mod inputs;
+mod leaves;
 mod mixed;
 mod show;
-mod windows;
 
 use edits::Case;
+use std::io;
 
-fn main() {
+fn main(rt: HostRuntime) -> io::Result<()> {
     let mut input = room();
-    let n = io::read_full(libc::STDIN_FILENO, &mut input);
-    every_case(&input[..n]);
+    let n = lines::read_full(&mut rt.reader(), &mut input)?;
+    every_case(&rt, &input[..n])
 }
 
 // Room for the whole input.
@@ -23,25 +24,26 @@ fn room() -> [u8; 524288] {
     [0; 524288]
 }
 
-fn every_case(input: &[u8]) {
+fn every_case(rt: &impl Print, input: &[u8]) -> io::Result<()> {
     let mut at: usize = 0;
     while at < input.len() {
-        one_case(lines::part(input, at, b'\n'));
+        one_case(rt, lines::part(input, at, b'\n'))?;
         at = lines::past(input, at, b'\n');
     }
+    Ok(())
 }
 
 // The case of a line.
-fn one_case(line: &[u8]) {
+fn one_case(rt: &impl Print, line: &[u8]) -> io::Result<()> {
     let digits = lines::past(line, 0, b' ');
     let mut file = [0u8; 3072];
     let plan = read(lines::part(line, digits, b' '), &mut file);
     let state = dispatch::fresh(plan).state;
     let next = lines::past(line, digits, b' ');
-    show::print(lines::part(line, 0, b' '));
-    show::print(b": ");
-    call(line, edits::all(line, Case { plan, state, next }));
-    show::print(b"\n");
+    rt.write_all(lines::part(line, 0, b' '))?;
+    print!(rt; ": ")?;
+    call(rt, line, edits::all(line, Case { plan, state, next }))?;
+    println!(rt; "")
 }
 
 // The plan value of a word of hex digits; `file` is room for its bytes.
@@ -51,13 +53,13 @@ fn read(word: &[u8], file: &mut [u8]) -> plans::Plan {
 }
 
 // Makes the call that is asked for.
-fn call(line: &[u8], case: Case) {
+fn call(rt: &impl Print, line: &[u8], case: Case) -> io::Result<()> {
     let words = inputs::words_of(line, case.next);
     match lines::byte(line, case.next) {
-        b'f' => calls::fresh(case),
-        b's' => calls::steps(line, case, words),
-        b'm' => mixed::mixed(line, case, words),
-        b'd' => calls::run(line, case, words, true),
-        _ => calls::run(line, case, words, false),
+        b'f' => calls::fresh(rt, case),
+        b's' => calls::steps(rt, line, case, words),
+        b'm' => mixed::mixed(rt, line, case, words),
+        b'd' => calls::run(rt, line, case, words, true),
+        _ => calls::run(rt, line, case, words, false),
     }
 }

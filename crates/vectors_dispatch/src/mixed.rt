@@ -3,48 +3,60 @@ ghost use Rattle.std.specs.Prelude.{◌<◌, ◌≤◌, length};
 
 use crate::edits::Case;
 use crate::inputs::Words;
-use crate::{inputs, show, windows};
+use crate::{inputs, leaves, show};
 use dispatch::{Setting, State};
 use plans::Plan;
+use std::io;
 
-pub fn mixed(line: &[u8], case: Case, at: Words) {
+pub fn mixed(rt: &impl Print, line: &[u8], case: Case, at: Words) -> io::Result<()> {
     let mut supplied = [0u8; 64];
     let mut declined = [0u64; 64];
     let mut out = [200u8; 512];
     let n = lines::decimal(line, at.room, b' ') as usize;
     if n <= 512 {
-        mixed_on(line, case, at, &mut supplied, &mut declined, &mut out[0..n]);
+        mixed_on(
+            rt,
+            line,
+            case,
+            at,
+            &mut supplied,
+            &mut declined,
+            &mut out[0..n],
+        )?;
     }
+    Ok(())
 }
 
 // The same, with room for the bytes and words.
 fn mixed_on(
+    rt: &impl Print,
     line: &[u8],
     case: Case,
     at: Words,
     supplied: &mut [u8],
     declined: &mut [u64],
     out: &mut [u8],
-) {
+) -> io::Result<()> {
     let settings = lines::part(line, at.setting, b' ');
     let k = lines::bytes(lines::part(line, at.supplies, b' '), supplied);
     let d = inputs::hex_words(lines::part(line, at.declines, b' '), declined);
-    let state = each_call(case, settings, &supplied[0..k], &declined[0..d], out);
-    show::state(state, case.plan.size);
-    show::print(b", room");
-    show::answers(out, case.plan.cores);
-    windows::all(case.plan, out);
+    let state = each_call(rt, case, settings, &supplied[0..k], &declined[0..d], out)?;
+    show::state(rt, state, case.plan.size)?;
+    print!(rt; ", room")?;
+    show::answers(rt, out, case.plan.cores)?;
+    leaves::all(rt, case.plan, out)
 }
 
 // A call for each stretch of slots that have one setting, each from the state that the one before handed back and into the room behind its answers. Hands
 // back the last state.
 fn each_call(
+    rt: &impl Print,
     case: Case,
     settings: &[u8],
     supplied: &[u8],
     declined: &[u64],
     out: &mut [u8],
-) -> State {
+) -> io::Result<State> {
     let cores = lines::least(case.plan.cores, 8);
     let n = lines::least(lines::least(supplied.len(), declined.len()), 64);
     let plan = case.plan;
@@ -54,16 +66,17 @@ fn each_call(
         let end = stretch(settings, at, n);
         let from = lines::least(at * cores, out.len());
         state = call(
+            rt,
             inputs::setting_of(settings, at),
             plan,
             state,
             &supplied[at..end],
             &declined[at..end],
             &mut out[from..],
-        );
+        )?;
         at = end;
     }
-    state
+    Ok(state)
 }
 
 // Where the slots from `at` on end that have its setting, among n.
@@ -83,53 +96,56 @@ fn stretch(settings: &[u8], at: usize, n: usize) -> usize
 
 // A step for a single slot, otherwise a run. Prints the call and its outcome, and hands back the state.
 fn call(
+    rt: &impl Print,
     setting: Setting,
     plan: Plan,
     state: State,
     supplied: &[u8],
     declined: &[u64],
     out: &mut [u8],
-) -> State {
+) -> io::Result<State> {
     if supplied.len() == 1 && 0 < declined.len() {
-        step(setting, plan, state, supplied[0], declined[0], out)
+        step(rt, setting, plan, state, supplied[0], declined[0], out)
     } else {
-        run(setting, plan, state, supplied, declined, out)
+        run(rt, setting, plan, state, supplied, declined, out)
     }
 }
 
 fn run(
+    rt: &impl Print,
     setting: Setting,
     plan: Plan,
     state: State,
     supplied: &[u8],
     declined: &[u64],
     out: &mut [u8],
-) -> State {
+) -> io::Result<State> {
     let ran = dispatch::run(setting, plan, state, supplied, declined, out);
     let end = ran.outcome;
-    show::print(b"run ");
-    show::setting(setting);
-    show::number(b" ", supplied.len() as u64);
-    show::outcome_of(end);
-    ran.state
+    print!(rt; "run ")?;
+    show::setting(rt, setting)?;
+    show::number(rt, " ", supplied.len() as u64)?;
+    show::outcome_of(rt, end)?;
+    Ok(ran.state)
 }
 
 fn step(
+    rt: &impl Print,
     setting: Setting,
     plan: Plan,
     state: State,
     supplied: u8,
     declined: u64,
     out: &mut [u8],
-) -> State {
+) -> io::Result<State> {
     let stepped = dispatch::step(setting, plan, state, supplied, declined);
     let end = stepped.outcome;
     let grants = stepped.grants;
-    show::print(b"step ");
-    show::setting(setting);
-    show::outcome_of(end);
+    print!(rt; "step ")?;
+    show::setting(rt, setting)?;
+    show::outcome_of(rt, end)?;
     put(&grants, plan.cores, out);
-    stepped.state
+    Ok(stepped.state)
 }
 
 // Puts the answers of a step for so many cores at the start of `out`.

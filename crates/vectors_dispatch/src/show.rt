@@ -2,63 +2,60 @@
 ghost use Rattle.std.specs.Prelude.{◌≤◌};
 
 use dispatch::{Outcome, Ran, Setting, State, Stepped};
+use std::io;
 
-pub fn print(words: &[u8]) {
-    io::write_all(libc::STDOUT_FILENO, words);
+// The words, then n.
+pub fn number(rt: &impl Print, words: &str, n: u64) -> io::Result<()> {
+    print!(rt; "{words}{n}")
 }
 
-pub fn number(words: &[u8], n: u64) {
-    print(words);
-    io::print_decimal(libc::STDOUT_FILENO, n);
-}
-
-pub fn ran(ran: Ran, size: usize) {
+pub fn ran(rt: &impl Print, ran: Ran, size: usize) -> io::Result<()> {
     let end = ran.outcome;
     let after = ran.state;
-    outcome(end);
-    print(b", ");
-    state(after, size);
+    outcome(rt, end)?;
+    print!(rt; ", ")?;
+    state(rt, after, size)
 }
 
 // The outcome and the eight answers of a step.
-pub fn step(stepped: Stepped) {
+pub fn step(rt: &impl Print, stepped: Stepped) -> io::Result<()> {
     let end = stepped.outcome;
     let grants = stepped.grants;
-    print(b"step ");
-    outcome(end);
-    answers(&grants, 8);
-    print(b", ");
+    print!(rt; "step ")?;
+    outcome(rt, end)?;
+    answers(rt, &grants, 8)?;
+    print!(rt; ", ")
 }
 
-pub fn setting(s: Setting) {
+pub fn setting(rt: &impl Print, s: Setting) -> io::Result<()> {
     match s {
-        Setting::Off => print(b"off"),
-        Setting::On => print(b"on"),
+        Setting::Off => print!(rt; "off"),
+        Setting::On => print!(rt; "on"),
     }
 }
 
 // The outcome of a call that was named before.
-pub fn outcome_of(o: Outcome) {
-    print(b" ");
-    outcome(o);
-    print(b", ");
+pub fn outcome_of(rt: &impl Print, o: Outcome) -> io::Result<()> {
+    print!(rt; " ")?;
+    outcome(rt, o)?;
+    print!(rt; ", ")
 }
 
-fn outcome(o: Outcome) {
+fn outcome(rt: &impl Print, o: Outcome) -> io::Result<()> {
     match o {
-        Outcome::Done => print(b"done"),
-        Outcome::Beyond => print(b"refused 15"),
-        Outcome::Unfit => print(b"refused 16"),
-        Outcome::Misfit => print(b"refused 17"),
+        Outcome::Done => print!(rt; "done"),
+        Outcome::Beyond => print!(rt; "refused 15"),
+        Outcome::Unfit => print!(rt; "refused 16"),
+        Outcome::Misfit => print!(rt; "refused 17"),
     }
 }
 
 // The clock, the counts of `size` nodes, and those after them up to the last that is not 0.
-pub fn state(s: State, size: usize) {
+pub fn state(rt: &impl Print, s: State, size: usize) -> io::Result<()> {
     let left = s.left;
-    number(b"clock ", s.clock);
-    print(b", left");
-    counts(&left, end_of(&left, size));
+    number(rt, "clock ", s.clock)?;
+    print!(rt; ", left")?;
+    counts(rt, &left, end_of(&left, size))
 }
 
 fn end_of(left: &[u16; 64], size: usize) -> usize
@@ -74,41 +71,43 @@ fn end_of(left: &[u16; 64], size: usize) -> usize
     n
 }
 
-fn counts(left: &[u16; 64], n: usize)
+fn counts(rt: &impl Print, left: &[u16; 64], n: usize) -> io::Result<()>
     requires { n ≤ 64 }
 {
     for i in 0..n {
-        count(left[i]);
+        count(rt, left[i])?;
     }
+    Ok(())
 }
 
-fn count(n: u16) {
-    number(b" ", n as u64);
+fn count(rt: &impl Print, n: u16) -> io::Result<()> {
+    number(rt, " ", n as u64)
 }
 
 // Each answer after a space or, within a slot, after a comma.
-pub fn answers(out: &[u8], cores: usize) {
+pub fn answers(rt: &impl Print, out: &[u8], cores: usize) -> io::Result<()> {
     for i in 0..out.len() {
-        before(i, cores);
-        answer(out[i]);
+        before(rt, i, cores)?;
+        answer(rt, out[i])?;
     }
+    Ok(())
 }
 
-fn before(i: usize, cores: usize) {
+fn before(rt: &impl Print, i: usize, cores: usize) -> io::Result<()> {
     if cores == 0 {
-        print(b" ");
+        print!(rt; " ")
     } else if i % cores == 0 {
-        print(b" ");
+        print!(rt; " ")
     } else {
-        print(b",");
+        print!(rt; ",")
     }
 }
 
-fn answer(a: u8) {
+fn answer(rt: &impl Print, a: u8) -> io::Result<()> {
     match a {
-        254 => print(b"-"),
-        255 => print(b"x"),
-        200 => print(b"."),
-        _ => number(b"", a as u64),
+        254 => print!(rt; "-"),
+        255 => print!(rt; "x"),
+        200 => print!(rt; "."),
+        _ => number(rt, "", a as u64),
     }
 }

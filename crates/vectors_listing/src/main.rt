@@ -5,60 +5,63 @@
 #![tactic(auto)]
 
 use listing::Listed;
+use std::io;
 
-fn main() {
-    let mut input = io::large_buffer();
-    let n = io::read_full(libc::STDIN_FILENO, &mut input);
-    let mut plan = io::buffer();
-    let mut room = io::buffer();
-    every_plan(&input[..n], &mut plan, &mut room);
+fn main(rt: HostRuntime) -> io::Result<()> {
+    let mut input = [0u8; 65536];
+    let n = lines::read_full(&mut rt.reader(), &mut input)?;
+    let mut plan = [0u8; 4096];
+    let mut room = [0u8; 4096];
+    every_plan(&rt, &input[..n], &mut plan, &mut room)
 }
 
-fn every_plan(input: &[u8], plan: &mut [u8], room: &mut [u8]) {
+fn every_plan(rt: &impl Print, input: &[u8], plan: &mut [u8], room: &mut [u8]) -> io::Result<()> {
     let mut at: usize = 0;
     while at < input.len() {
-        one_plan(lines::part(input, at, b'\n'), plan, room);
+        one_plan(rt, lines::part(input, at, b'\n'), plan, room)?;
         at = lines::past(input, at, b'\n');
     }
+    Ok(())
 }
 
 // The plan of a line. `plan` is room for its bytes, `room` for its listing.
-fn one_plan(line: &[u8], plan: &mut [u8], room: &mut [u8]) {
+fn one_plan(rt: &impl Print, line: &[u8], plan: &mut [u8], room: &mut [u8]) -> io::Result<()> {
     let digits = lines::past(line, 0, b' ');
     let n = lines::bytes(lines::part(line, digits, b' '), plan);
-    print(lines::part(line, 0, b' '));
-    print(b":\n");
-    list(&plan[0..n], room);
+    rt.write_all(lines::part(line, 0, b' '))?;
+    println!(rt; ":")?;
+    list(rt, &plan[0..n], room)
 }
 
-fn list(plan: &[u8], room: &mut [u8]) {
+fn list(rt: &impl Print, plan: &[u8], room: &mut [u8]) -> io::Result<()> {
     match listing::list(plan, room) {
         Listed::Written(n) => {
-            print(&room[0..n]);
-            list_short(plan, &mut room[0..n]);
+            rt.write_all(&room[0..n])?;
+            list_short(rt, plan, &mut room[0..n])
         }
-        Listed::Short => print(b"too little room\n"),
+        Listed::Short => println!(rt; "too little room"),
     }
 }
 
 // The same in a room that is one byte short of this one.
-fn list_short(plan: &[u8], room: &mut [u8]) {
+fn list_short(rt: &impl Print, plan: &[u8], room: &mut [u8]) -> io::Result<()> {
     let n = room.len();
     if 0 < n {
         fill(room);
-        try_in(plan, &mut room[0..n - 1]);
+        try_in(rt, plan, &mut room[0..n - 1])?;
     }
+    Ok(())
 }
 
-fn try_in(plan: &[u8], room: &mut [u8]) {
+fn try_in(rt: &impl Print, plan: &[u8], room: &mut [u8]) -> io::Result<()> {
     match listing::list(plan, room) {
-        Listed::Written(_) => print(b"one byte short: written"),
-        Listed::Short => print(b"one byte short: refused 17"),
+        Listed::Written(_) => print!(rt; "one byte short: written")?,
+        Listed::Short => print!(rt; "one byte short: refused 17")?,
     }
     if is_filled(room) {
-        print(b", nothing written\n");
+        println!(rt; ", nothing written")
     } else {
-        print(b", something written\n");
+        println!(rt; ", something written")
     }
 }
 
@@ -78,8 +81,4 @@ fn is_filled(room: &[u8]) -> bool {
         }
     }
     true
-}
-
-fn print(words: &[u8]) {
-    io::write_all(libc::STDOUT_FILENO, words);
 }

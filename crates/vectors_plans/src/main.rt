@@ -6,12 +6,13 @@
 mod show;
 
 use plans::{Node, Plan};
+use std::io;
 
-fn main() {
+fn main(rt: HostRuntime) -> io::Result<()> {
     let mut input = room();
-    let n = io::read_full(libc::STDIN_FILENO, &mut input);
+    let n = lines::read_full(&mut rt.reader(), &mut input)?;
     let mut file = [0u8; 3072];
-    every_file(&input[..n], &mut file);
+    every_file(&rt, &input[..n], &mut file)
 }
 
 // Room for the whole input.
@@ -19,87 +20,90 @@ fn room() -> [u8; 524288] {
     [0; 524288]
 }
 
-fn every_file(input: &[u8], file: &mut [u8]) {
+fn every_file(rt: &impl Print, input: &[u8], file: &mut [u8]) -> io::Result<()> {
     let mut at: usize = 0;
     while at < input.len() {
-        one_file(lines::part(input, at, b'\n'), file);
+        one_file(rt, lines::part(input, at, b'\n'), file)?;
         at = lines::past(input, at, b'\n');
     }
+    Ok(())
 }
 
 // The file of a line. `file` is room for its bytes.
-fn one_file(line: &[u8], file: &mut [u8]) {
+fn one_file(rt: &impl Print, line: &[u8], file: &mut [u8]) -> io::Result<()> {
     let digits = lines::past(line, 0, b' ');
     let node = lines::past(line, digits, b' ');
     let n = lines::bytes(lines::part(line, digits, b' '), file);
-    show::print(lines::part(line, 0, b' '));
-    show::print(b": ");
-    read(&file[0..n]);
+    rt.write_all(lines::part(line, 0, b' '))?;
+    print!(rt; ": ")?;
+    read(rt, &file[0..n])?;
     if node < line.len() {
-        ask(&file[0..n], lines::decimal(line, node, b' ') as usize);
+        ask(rt, &file[0..n], lines::decimal(line, node, b' ') as usize)?;
     }
-    show::print(b"\n");
+    println!(rt; "")
 }
 
 // The answer, and the names of an accepted plan.
-fn read(file: &[u8]) {
+fn read(rt: &impl Print, file: &[u8]) -> io::Result<()> {
     let reading = reader::read(file);
     let answer = reading.answer;
     match answer {
         answers::Answer::Accepted => {
-            show::number(b"accepted ", reading.plan.size);
-            nodes(file, reading.plan);
+            show::number(rt, "accepted ", reading.plan.size)?;
+            nodes(rt, file, reading.plan)
         }
         answers::Answer::Refused { number, place } => {
-            show::number(b"refused ", number as usize);
-            show::number(b" at ", place);
+            show::number(rt, "refused ", number as usize)?;
+            show::number(rt, " at ", place)
         }
     }
 }
 
 // The edition, where it is not the first, and the names.
-fn nodes(file: &[u8], plan: Plan) {
+fn nodes(rt: &impl Print, file: &[u8], plan: Plan) -> io::Result<()> {
     if plan.edition == 1 {
-        show::print(b":");
-        names(file, plan.size);
+        print!(rt; ":")?;
+        names(rt, file, plan.size)
     } else {
-        show::number(b" of edition ", plan.edition as usize);
-        show::print(b":");
-        names_with_misses(file, plan);
+        show::number(rt, " of edition ", plan.edition as usize)?;
+        print!(rt; ":")?;
+        names_with_misses(rt, file, plan)
     }
 }
 
-fn names(file: &[u8], size: usize) {
+fn names(rt: &impl Print, file: &[u8], size: usize) -> io::Result<()> {
     for i in 0..size {
-        show::print(b" ");
-        show::print(reader::name(file, i));
+        print!(rt; " ")?;
+        rt.write_all(reader::name(file, i))?;
     }
+    Ok(())
 }
 
-fn names_with_misses(file: &[u8], plan: Plan) {
+fn names_with_misses(rt: &impl Print, file: &[u8], plan: Plan) -> io::Result<()> {
     let size = lines::least(plan.size, 64);
     for i in 0..size {
-        show::print(b" ");
-        show::print(reader::name(file, i));
-        misses(plan.nodes[i]);
+        print!(rt; " ")?;
+        rt.write_all(reader::name(file, i))?;
+        misses(rt, plan.nodes[i])?;
     }
+    Ok(())
 }
 
 // D and W of a node.
-fn misses(node: Node) {
+fn misses(rt: &impl Print, node: Node) -> io::Result<()> {
     let misses = node.misses;
-    show::number(b" ", misses.d as usize);
-    show::number(b"/", misses.w as usize);
+    show::number(rt, " ", misses.d as usize)?;
+    show::number(rt, "/", misses.w as usize)
 }
 
 // The name of node i. It is empty where the plan is refused or has no such node.
-fn ask(file: &[u8], i: usize) {
+fn ask(rt: &impl Print, file: &[u8], i: usize) -> io::Result<()> {
     let name = reader::name(file, i);
-    show::number(b", node ", i);
+    show::number(rt, ", node ", i)?;
     if name.len() == 0 {
-        show::print(b" has no name");
+        print!(rt; " has no name")
     } else {
-        show::print(b" is ");
-        show::print(name);
+        print!(rt; " is ")?;
+        rt.write_all(name)
     }
 }

@@ -1,10 +1,7 @@
 // Prints words and numbers.
-pub fn print(words: &[u8]) {
-    io::write_all(libc::STDOUT_FILENO, words);
-}
+use std::io;
 
 // The words, then n.
-pub fn number(words: &[u8], n: usize) {
-    print(words);
-    io::print_decimal(libc::STDOUT_FILENO, n as u64);
+pub fn number(rt: &impl Print, words: &str, n: usize) -> io::Result<()> {
+    print!(rt; "{words}{n}")
 }

@@ -7,37 +7,40 @@ mod show;
 mod sides;
 
 use sides::Side;
+use std::io;
 
-fn main() {
-    let mut input = io::large_buffer();
-    let n = io::read_full(libc::STDIN_FILENO, &mut input);
-    every_pair(&input[..n]);
+fn main(rt: HostRuntime) -> io::Result<()> {
+    let mut input = [0u8; 65536];
+    let n = lines::read_full(&mut rt.reader(), &mut input)?;
+    every_pair(&rt, &input[..n])
 }
 
-fn every_pair(input: &[u8]) {
+fn every_pair(rt: &impl Print, input: &[u8]) -> io::Result<()> {
     let mut at: usize = 0;
     while at < input.len() {
-        one_pair(lines::part(input, at, b'\n'));
+        one_pair(rt, lines::part(input, at, b'\n'))?;
         at = lines::past(input, at, b'\n');
     }
+    Ok(())
 }
 
 // The pair of a line.
-fn one_pair(line: &[u8]) {
+fn one_pair(rt: &impl Print, line: &[u8]) -> io::Result<()> {
     let giver = sides::one_side(line, 0);
     let wanted = sides::one_side(line, giver.next);
     let next = wanted.next;
-    show::pair(giver, wanted);
+    show::pair(rt, giver, wanted)?;
     match lines::byte(line, next) {
         b'r' => in_room(
+            rt,
             giver,
             wanted,
             lines::decimal(line, lines::past(line, next, b' '), b' '),
         ),
-        b'j' => judged(giver, wanted),
+        b'j' => judged(rt, giver, wanted),
         _ => {
             let mut out = sevens();
-            decided(giver, wanted, &mut out);
+            decided(rt, giver, wanted, &mut out)
         }
     }
 }
@@ -48,37 +51,37 @@ fn sevens() -> [u8; 12288] {
 }
 
 // The answer, and the allocation where there is one.
-fn decided(giver: Side, wanted: Side, out: &mut [u8]) {
-    show::print(b": ");
+fn decided(rt: &impl Print, giver: Side, wanted: Side, out: &mut [u8]) -> io::Result<()> {
+    print!(rt; ": ")?;
     let answer = decide(giver, wanted, out);
-    show::decision(answer);
+    show::decision(rt, answer)?;
     if let types::Decision::Fails {
         start: _,
         ones: _,
         length,
     } = answer
     {
-        show::first(out, length);
+        show::first(rt, out, length)?;
     }
-    show::print(b"\n");
+    println!(rt; "")
 }
 
 // The answer with a buffer of `room` bytes, and all of the buffer.
-fn in_room(giver: Side, wanted: Side, room: u64) {
+fn in_room(rt: &impl Print, giver: Side, wanted: Side, room: u64) -> io::Result<()> {
     let mut out = sevens();
-    show::print(b" in room ");
-    show::number(room);
+    print!(rt; " in room {room}")?;
     let n = room as usize;
     if n <= 12288 {
-        whole(giver, wanted, &mut out[0..n]);
+        whole(rt, giver, wanted, &mut out[0..n])?;
     }
+    Ok(())
 }
 
-fn whole(giver: Side, wanted: Side, out: &mut [u8]) {
-    show::print(b": ");
-    show::decision(decide(giver, wanted, out));
-    show::bytes(out);
-    show::print(b"\n");
+fn whole(rt: &impl Print, giver: Side, wanted: Side, out: &mut [u8]) -> io::Result<()> {
+    print!(rt; ": ")?;
+    show::decision(rt, decide(giver, wanted, out))?;
+    show::bytes(rt, out)?;
+    println!(rt; "")
 }
 
 fn decide(giver: Side, wanted: Side, out: &mut [u8]) -> types::Decision {
@@ -90,12 +93,12 @@ fn decide(giver: Side, wanted: Side, out: &mut [u8]) -> types::Decision {
 }
 
 // Whether the pair holds, with the least ones of any wanted window.
-fn judged(giver: Side, wanted: Side) {
+fn judged(rt: &impl Print, giver: Side, wanted: Side) -> io::Result<()> {
     let gives = giver.kind;
     let given = giver.slots;
     let wants = wanted.kind;
     let asked = wanted.slots;
-    show::print(b" judged: ");
-    show::verdict(types::judge(gives, given, wants, asked));
-    show::print(b"\n");
+    print!(rt; " judged: ")?;
+    show::verdict(rt, types::judge(gives, given, wants, asked))?;
+    println!(rt; "")
 }

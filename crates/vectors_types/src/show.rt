@@ -1,130 +1,118 @@
 // Prints pairs, answers and bytes.
-ghost use Rattle.std.specs.Prelude.{◌<◌, ◌≤◌, length};
+ghost use Rattle.std.specs.Prelude.{◌<◌, ◌≤◌, length, IfOk};
 
 use crate::sides::Side;
 use meaning::Kind;
-
-pub fn print(words: &[u8]) {
-    io::write_all(libc::STDOUT_FILENO, words);
-}
-
-pub fn number(n: u64) {
-    io::print_decimal(libc::STDOUT_FILENO, n);
-}
+use std::io;
 
 // `aligned 1/4 for aligned 1/5`
-pub fn pair(giver: Side, wanted: Side) {
-    one_side(giver);
-    print(b" for ");
-    one_side(wanted);
+pub fn pair(rt: &impl Print, giver: Side, wanted: Side) -> io::Result<()> {
+    one_side(rt, giver)?;
+    print!(rt; " for ")?;
+    one_side(rt, wanted)
 }
 
-fn one_side(a: Side) {
+fn one_side(rt: &impl Print, a: Side) -> io::Result<()> {
     let k = a.kind;
     let s = a.slots;
     match k {
-        Kind::Aligned => print(b"aligned "),
-        Kind::Sliding => print(b"sliding "),
+        Kind::Aligned => print!(rt; "aligned ")?,
+        Kind::Sliding => print!(rt; "sliding ")?,
     }
-    number(s.c as u64);
-    print(b"/");
-    number(s.t as u64);
+    print!(rt; "{}/{}", s.c, s.t)
 }
 
-pub fn decision(answer: types::Decision) {
+pub fn decision(rt: &impl Print, answer: types::Decision) -> io::Result<()> {
     match answer {
-        types::Decision::Holds(ones) => counted(b"holds ", ones),
+        types::Decision::Holds(ones) => counted(rt, "holds", ones),
         types::Decision::Fails {
             start,
             ones,
             length,
         } => {
-            print(b"fails at ");
-            number(start as u64);
-            counted(b" with ", ones);
-            print(b" of ");
-            number(length as u64);
+            print!(rt; "fails at {start}")?;
+            counted(rt, " with", ones)?;
+            print!(rt; " of {length}")
         }
-        types::Decision::Refused { number, place } => refused(number, place),
+        types::Decision::Refused { number, place } => refused(rt, number, place),
     }
 }
 
-pub fn verdict(answer: types::Verdict) {
+pub fn verdict(rt: &impl Print, answer: types::Verdict) -> io::Result<()> {
     match answer {
-        types::Verdict::Holds(ones) => counted(b"holds ", ones),
-        types::Verdict::Short(ones) => counted(b"short ", ones),
-        types::Verdict::Refused { number, place } => refused(number, place),
+        types::Verdict::Holds(ones) => counted(rt, "holds", ones),
+        types::Verdict::Short(ones) => counted(rt, "short", ones),
+        types::Verdict::Refused { number, place } => refused(rt, number, place),
     }
 }
 
-fn counted(words: &[u8], n: u16) {
-    print(words);
-    number(n as u64);
+fn counted(rt: &impl Print, words: &str, n: u16) -> io::Result<()> {
+    print!(rt; "{words} {n}")
 }
 
 // The number of a refusal, and its place where it has one.
-fn refused(n: u8, place: u8) {
-    print(b"refused ");
-    number(n as u64);
+fn refused(rt: &impl Print, n: u8, place: u8) -> io::Result<()> {
+    print!(rt; "refused {n}")?;
     if place != 255 {
-        print(b" place ");
-        number(place as u64);
+        print!(rt; " place {place}")?;
     }
+    Ok(())
 }
 
 // The first n bytes.
-pub fn first(out: &[u8], n: u32) {
+pub fn first(rt: &impl Print, out: &[u8], n: u32) -> io::Result<()> {
     let n = n as usize;
     if n <= out.len() {
-        bytes(&out[0..n]);
+        bytes(rt, &out[0..n])?;
     }
+    Ok(())
 }
 
 // Bytes as runs, `0x5 1x2` for five zeros and two ones, and two runs that follow on themselves once, `(0x1 1x3)x1024`.
-pub fn bytes(out: &[u8]) {
+pub fn bytes(rt: &impl Print, out: &[u8]) -> io::Result<()> {
     if 0 < out.len() {
-        print(b":");
-        parts(out);
+        print!(rt; ":")?;
+        parts(rt, out)?;
     }
+    Ok(())
 }
 
-fn parts(out: &[u8]) {
+fn parts(rt: &impl Print, out: &[u8]) -> io::Result<()> {
     let mut at: usize = 0;
     while at < out.len() {
-        at = at + part(&out[at..]);
+        at = at + part(rt, &out[at..])?;
     }
+    Ok(())
 }
 
 // Prints what stands at the front, and says how many bytes that is.
-fn part(s: &[u8]) -> usize
+fn part(rt: &impl Print, s: &[u8]) -> io::Result<usize>
     requires { 0 < length s.now }
-    ensures { (0 < result) × (result ≤ length s.now) }
+    ensures { IfOk result (λ n. (0 < n) × (n ≤ length s.now)) }
 {
-    print(b" ");
+    print!(rt; " ")?;
     let one = run(s);
     if one == s.len() {
-        times(s[0], one);
-        return one;
+        times(rt, s[0], one)?;
+        return Ok(one);
     }
     let two = one + run(&s[one..]);
     let all = two + blocks(same(s, &s[two..]), two);
     if all == two {
-        times(s[0], one);
-        return one;
+        times(rt, s[0], one)?;
+        return Ok(one);
     }
-    print(b"(");
-    times(s[0], one);
-    print(b" ");
-    times(s[one], two - one);
-    print(b")x");
-    number((all / two) as u64);
-    all
+    print!(rt; "(")?;
+    times(rt, s[0], one)?;
+    print!(rt; " ")?;
+    times(rt, s[one], two - one)?;
+    let turns = all / two;
+    print!(rt; ")x{turns}")?;
+    Ok(all)
 }
 
-fn times(byte: u8, n: usize) {
-    number(byte as u64);
-    print(b"x");
-    number(n as u64);
+fn times(rt: &impl Print, byte: u8, n: usize) -> io::Result<()> {
+    print!(rt; "{byte}x{n}")
 }
 
 // How many bytes at the front are the same.

@@ -4,44 +4,54 @@ ghost use Rattle.std.specs.Prelude.{◌<◌, ◌≤◌, length};
 use crate::show;
 use meaning::SlotType;
 use plans::{Node, NodeKind, Plan};
+use std::io;
 
 // The leaves of the plan, by the answers of a run.
-pub fn all(plan: Plan, answers: &[u8]) {
+pub fn all(rt: &impl Print, plan: Plan, answers: &[u8]) -> io::Result<()> {
     let size = lines::least(plan.size, 64);
     let cores = lines::least(plan.cores, 8);
     for i in 0..size {
-        node(plan.nodes[i], i, cores, answers);
+        node(rt, plan.nodes[i], i, cores, answers)?;
     }
+    Ok(())
 }
 
 // The windows of an aligned leaf start at the multiples of its wanted T, those of a sliding one at every slot. A host has none.
-fn node(node: Node, i: usize, cores: usize, answers: &[u8])
+fn node(rt: &impl Print, node: Node, i: usize, cores: usize, answers: &[u8]) -> io::Result<()>
     requires cores_bound { cores ≤ 8 }
     requires i_bound { i < 64 }
 {
     let kind = node.kind;
     let wanted = node.wanted;
     match kind {
-        NodeKind::AlignedLeaf => leaf(wanted, i, wanted.t, cores, answers),
-        NodeKind::SlidingLeaf => leaf(wanted, i, 1, cores, answers),
-        NodeKind::Host => {}
+        NodeKind::AlignedLeaf => leaf(rt, wanted, i, wanted.t, cores, answers),
+        NodeKind::SlidingLeaf => leaf(rt, wanted, i, 1, cores, answers),
+        NodeKind::Host => Ok(()),
     }
 }
 
 // Leaf i, whose windows start every `step` slots. A slot has an answer for each core.
-fn leaf(wanted: SlotType, i: usize, step: u16, cores: usize, answers: &[u8])
+fn leaf(
+    rt: &impl Print,
+    wanted: SlotType,
+    i: usize,
+    step: u16,
+    cores: usize,
+    answers: &[u8],
+) -> io::Result<()>
     requires cores_bound { cores ≤ 8 }
     requires i_bound { i < 64 }
 {
     let on = answers_in(step, cores);
     let size = answers_in(wanted.t, cores);
-    show::number(b", leaf ", i as u64);
-    show::number(b" wants ", wanted.c as u64);
-    show::number(b"/", wanted.t as u64);
-    show::print(b" received");
+    show::number(rt, ", leaf ", i as u64)?;
+    show::number(rt, " wants ", wanted.c as u64)?;
+    show::number(rt, "/", wanted.t as u64)?;
+    print!(rt; " received")?;
     if 0 < on && on <= size && size <= answers.len() {
-        windows(answers, i as u8, on, size);
+        windows(rt, answers, i as u8, on, size)?;
     }
+    Ok(())
 }
 
 // How many answers so many slots have.
@@ -52,7 +62,7 @@ fn answers_in(slots: u16, cores: usize) -> usize
 }
 
 // The answers `size` at a time, from every `on`-th.
-fn windows(answers: &[u8], i: u8, on: usize, size: usize)
+fn windows(rt: &impl Print, answers: &[u8], i: u8, on: usize, size: usize) -> io::Result<()>
     requires on_nonzero { 0 < on }
     requires on_le_size { on ≤ size }
     requires size_in_bounds { size ≤ length answers.now }
@@ -60,9 +70,10 @@ fn windows(answers: &[u8], i: u8, on: usize, size: usize)
     let last = answers.len() - size;
     let mut at: usize = 0;
     while at <= last {
-        show::number(b" ", received(&answers[at..at + size], i));
+        show::number(rt, " ", received(&answers[at..at + size], i))?;
         at += on;
     }
+    Ok(())
 }
 
 // How many of the answers name leaf i.

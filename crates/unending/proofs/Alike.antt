@@ -10,10 +10,10 @@ use Rattle.plans.specs.declared.Plan.{Plan}
 use Rattle.rules.proofs.Kept.{fits_exactly}
 use Rattle.rules.specs.Check.{is_fit}
 use Rattle.rules.specs.Fit.{Fit}
-use Rattle.dispatch.specs.View.{View, view_of, is_leaf, served_c, served_t}
+use Rattle.dispatch.specs.View.{view_of, is_leaf, served_c, served_t}
 use Rattle.dispatch.specs.Run.{Standing, started, left_within, ready, roomy, outcome, course_by, course, ran, out_after, stepped}
 use Rattle.dispatch.specs.declared.Setting.{Setting}
-use Rattle.unending.specs.Alike.{ButMisses, SameSlots, SlotsAlike}
+use Rattle.unending.specs.Alike.{ButMisses, SlotsAlike}
 
 module _ (a b : Plan) (but : ButMisses a b) (fit : Fit a) (fit' : Fit b) where
   -- both fit

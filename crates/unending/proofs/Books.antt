@@ -1,6 +1,6 @@
 -- The books of one slot: the counts in hand against those at the slot's start, after its refill. What fell fell by one, is the choice at the start of its
 -- parent, and its parent may give the slot; and the choice of each parent that may give it has fallen. Assumes nothing.
-use Prim.Native.Nat.{ℕ, suc, ◌-◌, ◌≤◌, ◌<◌}
+use Prim.Native.Nat.{ℕ, suc, ◌≤◌, ◌<◌}
 use mathlib.Core.Bool.{Bool, true, false, true≢false}
 use mathlib.Core.List.{List}
 use mathlib.Core.Path.{◌≡◌, refl, sym, ◌∙◌}

@@ -13,11 +13,11 @@ use Rattle.plans.proofs.All.{both_ways}
 use Rattle.plans.proofs.Cores.{one_core, core_exactly}
 use Rattle.plans.proofs.Parents.{host_there}
 use Rattle.plans.specs.Cores.{child, deeper, OnCore, core_of}
-use Rattle.plans.specs.Plan.{parent_of}
+use Rattle.plans.specs.Plan.{There, parent_of}
 use Rattle.plans.specs.declared.Parent.TheVariants.{Supply}
 use Rattle.plans.specs.declared.Plan.{Plan}
 use Rattle.rules.specs.Fit.{Fit}
-use Rattle.dispatch.specs.View.{view_of, is_leaf, served_c, served_t}
+use Rattle.dispatch.specs.View.{bit_of, view_of, is_leaf, served_c, served_t}
 use Rattle.dispatch.specs.Slot.{slot}
 use Rattle.dispatch.specs.Run.{course_to, course_by, fresh_left}
 use Rattle.dispatch.specs.declared.Setting.{Setting}
@@ -142,9 +142,12 @@ balance_after plan fit settings supply declines i b a l below =
 -- a node is charged only in a slot of its own core
 pub own_core : OwnCore
 unfolding may
-own_core plan fit settings supply declines i n s l (child up) c = rw up at ((charged_exactly plan fit settings supply declines i n l).0 c).0
-own_core plan fit settings supply declines i n s l (deeper {h = h} up core) c =
-    own_core plan fit settings supply declines h n s (host_there plan fit.sound i l h up) core (rw up at ((charged_exactly plan fit settings supply declines i n l).0 c).0)
+own_core plan fit settings supply declines i n s = go s i
+  where
+    go : (s i : ℕ) → There plan i → OnCore plan i s → charged plan settings supply declines i n ≡ true → bit_of (supply n) s ≡ true
+    go s i l (child up) c = rw up at ((charged_exactly plan fit settings supply declines i n l).0 c).0
+    go s i l (deeper {h = h} up core) c =
+        go s h (host_there plan fit.sound i l h up) core (rw up at ((charged_exactly plan fit settings supply declines i n l).0 c).0)
 
 -- at most one child of a parent is charged in a slot
 pub one_child : OneChild

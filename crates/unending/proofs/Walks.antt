@@ -1,6 +1,6 @@
 -- One walk keeps the books of its slot: each level charges the choice at the slot's start of the parent where it stands, and in the end no parent's
 -- choice is left out. Its grant is the one leaf that fell in it. Assumes nothing.
-use Prim.Native.Nat.{ℕ, zero, suc, ◌+◌, ◌-◌, ◌≤◌, ◌<◌}
+use Prim.Native.Nat.{ℕ, zero, suc, ◌+◌, ◌≤◌, ◌<◌}
 use mathlib.Core.Bool.{Bool, true, false, cond, true≢false}
 use mathlib.Core.List.{List}
 use mathlib.Core.Logic.{◌⊎◌, inl, inr}

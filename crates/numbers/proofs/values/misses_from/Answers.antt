@@ -1,0 +1,15 @@
+-- `numbers::values::misses_from` meets its contract: numbers within the fields of misses fit them. Assumes nothing.
+use mathlib.Core.Path.{refl}
+use Rattle.numbers.specs.Numbers.{misses_from}
+use Rattle.numbers.proofs.Fields.{first_fits, second_fits}
+use Rattle.numbers.proofs.values.misses_from.Goals as goal
+
+pub overflow_cast-result : goal.overflow_cast-result
+overflow_cast-result c = search first_fits
+
+pub overflow_cast-result-2 : goal.overflow_cast-result-2
+overflow_cast-result-2 c = search second_fits
+
+pub returns : goal.returns
+unfolding misses_from
+returns c = refl

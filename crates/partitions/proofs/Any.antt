@@ -1,6 +1,6 @@
 -- A test of some number below n, and its laws. Assumes nothing.
 use Prim.Native.Nat.{ℕ, zero, suc, ◌<◌}
-use mathlib.Core.Bool.{Bool, true, false, ◌||◌, or_true}
+use mathlib.Core.Bool.{Bool, true, false, ◌||◌, or-true}
 use mathlib.Core.Logic.{◌⊎◌, inl, inr}
 use mathlib.Core.Path.{◌≡◌, refl}
 use native.Mathlib.Nat.{eq-or-lt_of_le, le_of_suc-le-suc}
@@ -29,5 +29,5 @@ module _ (f : ℕ → Bool) where
   any_here (suc n) s l at = go (eq-or-lt_of_le (le_of_suc-le-suc l)) (any_here n s)
     where
       go : (s ≡ n) ⊎ (s < n) → (s < n → f s ≡ true → any f n ≡ true) → (any f n || f n) ≡ true
-      go (inl e) before = rw (← e, at) (or_true (any f s))
+      go (inl e) before = rw (← e, at) (or-true (any f s))
       go (inr m) before = rw (before m at)

@@ -7,7 +7,7 @@ use native.Mathlib.Decide.{dec_le}
 use native.Mathlib.Nat.{mul_assoc, mul-div_cancel}
 use native.Mathlib.Omega.{arith}
 use lib.ListN.{length, get_or, take, drop, take-append-drop, get_or-eq_default}
-use Rattle.meaning.specs.Allocation.{Allocation, ones}
+use Rattle.meaning.specs.Allocation.{Allocation}
 use Rattle.meaning.proofs.WellFormed.{bounds}
 use Rattle.owed.proofs.Ones.{ones_ext}
 use Rattle.plans.specs.Plan.{wanted_of, served_of}

@@ -1,6 +1,6 @@
 -- Who is not charged in a slot: whoever is passed over, and with the switch on all that is on an idle core, under whose supply nobody is chosen. Assumes nothing.
 use Prim.Native.Nat.{ℕ, ◌<◌}
-use mathlib.Core.Bool.{Bool, true, false, true≢false}
+use mathlib.Core.Bool.{Bool, true, true≢false}
 use mathlib.Core.List.{List}
 use mathlib.Core.Logic.{inl, inr}
 use mathlib.Core.Path.{◌≡◌, sym, ◌∙◌}

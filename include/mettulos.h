@@ -1,8 +1,8 @@
 /* Mettulos from C: partition plans read and checked, types decided on, slots given out, slot times. Each function is proved in Rattle to answer as is said
  * here, for every input; crates/exports/specs states it.
  *
- * The library is target/staticlib/libexports.a, which tools/c/library builds. It is for x86-64 alone (ELF, the calling convention of Linux) and asks for
- * nothing but memcpy beside it.
+ * The library is target/staticlib/libexports.a, which tools/c/library builds. It is for x86-64 alone (ELF, the calling convention of Linux; a processor of
+ * x86-64-v2, which has SSE4.2) and asks for nothing but memcpy and memset beside it.
  *
  * What the words mean. A type is C slots in T, with T from 1 to 4,096 and C from 0 to T. Aligned: every window of T slots that starts at a multiple of T
  * holds at least C. Sliding: every window of T slots does. A giving type stands in for a wanted one when whatever honours the giver honours the wanted.

@@ -2,7 +2,6 @@
 -- needed for it. Why each statement holds is in proofs/. Assumes nothing.
 use Rattle.std.specs.Prelude.{ℕ, List, [], ◌∷◌, ◌++◌, ◌≡◌, length, get_or, take, replicate}
 use Rattle.meaning.specs.Types.{◌of◌}
-use Rattle.meaning.specs.declared.Misses.{Misses}
 use Rattle.plans.specs.Plan.{zero_type, zero_node}
 use Rattle.plans.specs.declared.NodeKind.TheVariants.{AlignedLeaf}
 use Rattle.plans.specs.declared.Parent.TheVariants.{Supply}

@@ -1,5 +1,4 @@
 -- `lines::bytes` meets its contract: what is written so far stands before what of the room is left. Assumes nothing.
-use Prim.Native.Nat.{◌-◌}
 use Rattle.lines.proofs.Digits.{bytes_none, bytes_more, bytes_done}
 use borrow.Author.Rules.{rules}
 use Rattle.lines.proofs.bytes.Goals as goal

@@ -1,5 +1,4 @@
 -- `lines::end_of` meets its contract: each byte passed is above the stop, so that the part from there on ends where the whole part does. Assumes nothing.
-use Prim.Native.Nat.{◌-◌}
 use borrow.Author.Rules.{rules}
 use Rattle.lines.proofs.Parts.{end_later, end_here, end_nowhere}
 use Rattle.lines.proofs.end_of.Goals as goal

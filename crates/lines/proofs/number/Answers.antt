@@ -1,5 +1,4 @@
 -- `lines::number` meets its contract: n is what the digits passed spell. Assumes nothing.
-use Prim.Native.Nat.{◌-◌}
 use Rattle.lines.proofs.Digits.{spelled_none, spelled_more, spelled_done}
 use borrow.Author.Rules.{rules}
 use Rattle.lines.proofs.number.Goals as goal

@@ -20,11 +20,10 @@ pub put-requires : goal.put-requires
 put-requires c = search (cores_most, give_place)
 
 pub loop-i-preserved : goal.loop-i-preserved
-loop-i-preserved c =
-    (
-      search rules,
-      give_one _ _ _ _ _ _ _ _ (cores_most _ c.requires.0) _ _ _ c.loop-i.invariant.1 (search rules) _ c.serve-served.ensures _ c.put.ensures,
-    )
+loop-i-preserved c = (
+  search rules,
+  give_one _ _ _ _ _ _ _ _ (cores_most _ c.requires.0) _ _ _ c.loop-i.invariant.1 (search rules) _ c.serve-served.ensures _ c.put.ensures,
+)
 
 pub shape_of-out : goal.shape_of-out
 shape_of-out c = search give_length

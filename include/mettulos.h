@@ -1,8 +1,8 @@
 /* Mettulos from C: partition plans read and checked, types decided on, slots given out, slot times. Each function is proved in Rattle to answer as is said
  * here, for every input; crates/exports/specs states it.
  *
- * The library is target/staticlib/libexports.a, which tools/c/library builds. It is for x86-64 alone (ELF, the calling convention of Linux) and asks for
- * nothing but memcpy beside it.
+ * The library is target/staticlib/libexports.a, which tools/c/library builds. It is for x86-64 alone (ELF, the calling convention of Linux; a processor of
+ * x86-64-v2, which has SSE4.2) and asks for nothing but memcpy and memset beside it.
  *
  * What the words mean. A type is C slots in T, with T from 1 to 4,096 and C from 0 to T. Aligned: every window of T slots that starts at a multiple of T
  * holds at least C. Sliding: every window of T slots does. A giving type stands in for a wanted one when whatever honours the giver honours the wanted.
@@ -33,8 +33,8 @@
  * Threads: the functions share nothing and keep nothing, neither memory nor locks, so any number of threads may call them at once, each with buffers of its
  * own; what is only read (bytes, a plan value, supplies, declines) may be the same for all.
  *
- * Stack, in bytes, as measured on plans of 64 nodes in eight levels and rounded up, not proved: a step and a run take 24,700, a read 8,800, a name 8,000, a
- * fresh start 5,500, a decision 200 (docs/PERFORMANCE.md says how it is measured); a slot time takes too little to show. No function takes memory in any other
+ * Stack, in bytes, as measured on plans of 64 nodes in eight levels and rounded up, not proved: a step and a run take 24,800, a read 12,500, a name 11,400, a
+ * fresh start 9,200, a decision 300 (docs/PERFORMANCE.md says how it is measured); a slot time takes too little to show. No function takes memory in any other
  * way.
  *
  * What a call costs: every name reads and checks the whole plan anew, as a read does, so keep what it answers. Every fresh start, step and run checks the whole

@@ -15,7 +15,7 @@ use Rattle.dispatch.proofs.Choices.{eligible_under, eligible_left, eligible_chil
 use Rattle.dispatch.proofs.Slots.{length_refilled, refilled_due, refilled_kept}
 use Rattle.dispatch.proofs.SlotsFresh.{length_fresh, fresh_count, fresh_past}
 use Rattle.dispatch.proofs.SlotsDepth.{at_top, walk_enough}
-use Rattle.dispatch.proofs.Running.{course-one, grants-whole}
+use Rattle.dispatch.proofs.Running.{course_one, grants_whole}
 use Rattle.dispatch.proofs.Passing.{is_nobody_lem, nobody_is, leaf_passed, host_kept, host_fixed}
 use Rattle.dispatch.specs.View.{View, view_of}
 use Rattle.dispatch.specs.Passed.{passed_over, levels_down}
@@ -142,8 +142,8 @@ runs_join v cores n settings settings' supplies declines supplies' declines' lef
 pub step_is_slot : StepIsSlot
 unfolding stepped ran out_after
 step_is_slot setting plan state supplied declined ends =
-    let one = course-one setting plan state supplied declined in
-    rw (ends, one, grants-whole setting plan state supplied declined)
+    let one = course_one setting plan state supplied declined in
+    rw (ends, one, grants_whole setting plan state supplied declined)
 
 -- the outcome that a saying tells
 outcome_of : Said → Outcome

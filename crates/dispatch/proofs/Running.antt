@@ -166,17 +166,17 @@ module _ (setting : Setting) (plan : Plan) (state : State) (supplies declines : 
 
 module _ (setting : Setting) (plan : Plan) (state : Standing) (supplied declines : ℕ) where
   -- a run of one is one slot
-  pub course-one :
+  pub course_one :
       let next : SlotEnd = slot setting (view_of plan) plan.cores state.clock supplied declines state.left in
       course setting plan state (supplied ∷ []) (declines ∷ []) ≡ record { left = next.left; answers = take plan.cores next.grants }
   unfolding course course_by course_to
-  course-one = rw (add-zero state.clock)
+  course_one = rw (add-zero state.clock)
 
   -- whose answers, laid down in eight bytes of 255, are all eight of the slot
-  pub grants-whole :
+  pub grants_whole :
       let next : SlotEnd = slot setting (view_of plan) plan.cores state.clock supplied declines state.left in
       take plan.cores next.grants ++ drop (1 * plan.cores) (replicate 8 unsupplied) ≡ next.grants
-  grants-whole =
+  grants_whole =
       let next = slot setting (view_of plan) plan.cores state.clock supplied declines state.left in
       rw (one-mul plan.cores, ← (slot_past setting (view_of plan) plan.cores state.clock supplied declines state.left))
       (take-append-drop plan.cores next.grants)
@@ -193,5 +193,5 @@ module _ (setting : Setting) (plan : Plan) (state : State) (supplied declines : 
       stepped setting plan (standing state) supplied declines
   unfolding stepped ran out_after
   step_done h next l =
-      let one = course-one setting plan (standing state) supplied declines in
-      rw (← e, h, one, grants-whole setting plan (standing state) supplied declines, ← (ap (λ so. so.left) l), ← (ap (λ so. so.grants) l))
+      let one = course_one setting plan (standing state) supplied declines in
+      rw (← e, h, one, grants_whole setting plan (standing state) supplied declines, ← (ap (λ so. so.left) l), ← (ap (λ so. so.grants) l))

@@ -64,10 +64,10 @@ two-le-at C T L step d a j some fits left right below above = rw (owed_mod C T (
         le_trans (min-le_right _ _) (rises C T some fits (a * d + d) x L above next (omega (arith, mod-lt (j * step) some)))
 
 -- over the first T starts an aligned giver owes least at one of two neighbouring multiples of d with C between them
-pub least-between
+pub least_between
     : (C T L step d times blocks a : ℕ) → 0 < T → C ≤ T → d ∣ T → d ∣ step → times * step ≡ d + blocks * T → a * d ≤ C → C ≤ a * d + d
     → lowest (at C T step L) L T ≡ min (owed C T (a * d) L) (owed C T (a * d + d) L)
-least-between C T L step d times blocks a some fits left right meets below above =
+least_between C T L step d times blocks a some fits left right meets below above =
     le_antisymm
     (le-min (reached a) (rw suc-mul at (reached (suc a))))
     (

@@ -28,7 +28,7 @@ use Rattle.owed.proofs.Owed.{whole, head, owed}
 use Rattle.owed.proofs.Ones.{ones_le}
 use Rattle.owed.proofs.Lowest.{lowest_ext}
 use Rattle.owed.proofs.Attained.{written_ones}
-use Rattle.owed.proofs.Two.{at, least-between}
+use Rattle.owed.proofs.Two.{at, least_between}
 use Rattle.types.specs.Least.{step, turns, ones_from, ones_at, least_ones}
 
 -- a well-formed type has a period
@@ -145,7 +145,7 @@ module _ (giver : SlotType) (n d : ℕ) (g : well_formed giver ≡ true) (common
       let reach = common_reached giver.t n d (rw e (step_positive wants wanted w)) common in
       rw (owed_from giver wanted (giver.c / d * d) g, owed_from giver wanted (giver.c / d * d + d) g)
       (lowest_ext (ones_at giver wants wanted) (at giver.c giver.t n wanted.t) wanted.t giver.t (λ j l. rw e (owed_from giver wanted _ g))
-      ∙ least-between giver.c giver.t wanted.t n d reach.times reach.blocks (giver.c / d)
+      ∙ least_between giver.c giver.t wanted.t n d reach.times reach.blocks (giver.c / d)
       (period_positive giver g) (count_le giver g) common.left common.right reach.meets
       (div-mul-le_self giver.c d) (omega (arith, lt-div-mul-add {a = giver.c} divisor_positive)))
 

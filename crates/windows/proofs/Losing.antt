@@ -28,9 +28,9 @@ pub record Losing (served wanted : SlotType) (K u : ℕ) : Type 0 where
 
 module _ {served wanted : SlotType} {K u : ℕ} (losing : Losing served wanted K u) (misses : Misses) where
   -- where (K − u, K) stands in for (W − D, W), the served type stands in for the soft type
-  pub stands-in-by-windows
+  pub stands_in_by_windows
       : StandsIn Aligned ((K - u) of K) Aligned ((misses.w - misses.d) of misses.w) → StandsInSoft Aligned served Aligned wanted misses
-  stands-in-by-windows stands α honours b = stands (met Aligned wanted α) (losing.bound α honours) (b * misses.w) (b, refl)
+  stands_in_by_windows stands α honours b = stands (met Aligned wanted α) (losing.bound α honours) (b * misses.w) (b, refl)
 
   -- and only there
   pub windows-stand-in

@@ -15,7 +15,7 @@ use Rattle.numbers.specs.Numbers.{plan_of_numbers, is_plan, is_state}
 use Rattle.numbers.specs.Promises.{LaidOut}
 use Rattle.exports.specs.Exports.{placeless, refusal, telling, deciding, reading, span, are_whole, freshening, stepping, running}
 
--- The value of an accepted plan is handed from the read to every call after it was read.
+-- The value of an accepted plan is handed from the read to every call after it as it was read.
 abbrev pub HandedOn : Type 0
 HandedOn = (bytes : List ℕ) → (read_plan bytes).answer ≡ Accepted → LaidOut (read_plan bytes).plan
 

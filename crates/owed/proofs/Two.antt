@@ -38,20 +38,20 @@ pub offset_multiple : (T step d j : ℕ) → d ∣ T → d ∣ step → j * step
 offset_multiple T step d j left right = div-mul_cancel d ((dvd-mod_iff d left).1 (dvd-mul_left_of_dvd d right j))
 
 -- one of the first T starts is owed what the k-th multiple of d is
-pub multiple-occurs
+pub multiple_occurs
     : (C T L step d times blocks k : ℕ) → 0 < T → times * step ≡ d + blocks * T → at C T step L (k * times % T) ≡ owed C T (k * d) L
 unfolding at
-multiple-occurs C T L step d times blocks k some meets =
+multiple_occurs C T L step d times blocks k some meets =
     let apart : k * times * step ≡ k * d + k * blocks * T =
     omega (arith, mul_assoc k times step, ap (λ (x : ℕ). k * x) meets, mul-add k d (blocks * T), mul_assoc k blocks T) in
     sym (owed_turn C T step L (k * times) some) ∙ ap (λ (x : ℕ). owed C T x L) apart ∙ owed_later C T (k * d) (k * blocks) L
 
 -- no start is owed less than both of two neighbouring multiples of d with C between them
-pub two-le-at
+pub two_le_at
     : (C T L step d a j : ℕ) → 0 < T → C ≤ T → d ∣ T → d ∣ step → a * d ≤ C → C ≤ a * d + d
     → min (owed C T (a * d) L) (owed C T (a * d + d) L) ≤ at C T step L j
 unfolding at
-two-le-at C T L step d a j some fits left right below above = rw (owed_mod C T (j * step) L some) (go (le_or_lt x (a * d)))
+two_le_at C T L step d a j some fits left right below above = rw (owed_mod C T (j * step) L some) (go (le_or_lt x (a * d)))
   where
     x : ℕ
     x = j * step % T
@@ -73,8 +73,8 @@ least_between C T L step d times blocks a some fits left right meets below above
     (
     ge_lowest (at C T step L) L T _
     (le_trans (min-le_left _ _) (owed_le C T (a * d) L some fits))
-    (λ j l. two-le-at C T L step d a j some fits left right below above)
+    (λ j l. two_le_at C T L step d a j some fits left right below above)
     )
   where
     reached : (k : ℕ) → lowest (at C T step L) L T ≤ owed C T (k * d) L
-    reached k = rw (multiple-occurs C T L step d times blocks k some meets) at (lowest_le (at C T step L) L T (k * times % T) (mod-lt (k * times) some))
+    reached k = rw (multiple_occurs C T L step d times blocks k some meets) at (lowest_le (at C T step L) L T (k * times % T) (mod-lt (k * times) some))

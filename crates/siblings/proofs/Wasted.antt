@@ -36,7 +36,7 @@ module _ (plan : Plan) (sound : Sound plan) where
   walk_on passed s now = sym (walk_enough plan sound passed 8 1 s (omega arith) now)
 
   module _ (full : List ℕ) where
-    -- a charged child leaves all beneath it was
+    -- a charged child leaves all beneath it as it was
     pub whole_below : {x : Parent} (now : List ℕ) → Whole plan full x now → (h : ℕ) → parent_of plan h ≡ x → Whole plan full (Under h) (charge now h)
     whole_below now whole h up i l b =
         charge_other now h i (λ e. omega (arith, beneath_later plan sound b l)) ∙ whole i l (beneath_host plan up b)

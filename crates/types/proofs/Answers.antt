@@ -74,12 +74,12 @@ module _ (gives : Kind) (giver : SlotType) (wants : Kind) (wanted : SlotType) (r
       too_few n = rw (sym e ∙ h, sym k ∙ l, ← least, lt-leb wanted.c m n)
 
 -- what falls short has passed both tests
-both-passed
+both_passed
     : (g w b : Bool) (l m : ℕ) → verdict.short m ≡ cond g (cond w (cond b (verdict.holds l) (verdict.short l)) (verdict.refused 4 (at 1))) (verdict.refused 4 (at 0))
     → (g ≡ true) × (w ≡ true)
-both-passed true true b l m e = (refl, refl)
-both-passed true false b l m e = (refl, cc)
-both-passed false w b l m e = (cc, cc)
+both_passed true true b l m e = (refl, refl)
+both_passed true false b l m e = (refl, cc)
+both_passed false w b l m e = (cc, cc)
 
 -- a pair's decision, from its verdict v
 module _ (gives : Kind) (giver : SlotType) (wants : Kind) (wanted : SlotType) (v : Verdict) (e : said v ≡ judged gives giver wants wanted) where
@@ -113,7 +113,7 @@ module _ (gives : Kind) (giver : SlotType) (wants : Kind) (wanted : SlotType) (v
     unfolding judged
     short_passed =
         let least : ℕ = least_ones gives giver wants wanted in
-        both-passed (well_formed giver) (well_formed wanted) (leb wanted.c least) least m (rw h at e)
+        both_passed (well_formed giver) (well_formed wanted) (leb wanted.c least) least m (rw h at e)
 
     -- both types are well formed
     pub short_giver : well_formed giver ≡ true

@@ -53,11 +53,11 @@ module _ (giver : SlotType) (wants : Kind) (wanted : SlotType) (far n j : ℕ) (
   none_found past = rw (sub-eq-zero_of_le past) at known ∙ same_windows
 
 -- the start of the first window that falls short is its number times the step
-pub first-start
+pub first_start
     : (gives : Kind) (giver : SlotType) (wants : Kind) (wanted : SlotType) (n j far : ℕ) → n ≡ turns gives giver
     → j ≡ first_below (ones_at giver wants wanted) wanted.c 0 n → far ≡ step wants wanted → j * far ≡ first_short gives giver wants wanted
 unfolding first_short
-first-start gives giver wants wanted n j far e first apart = rw (first, apart, e)
+first_start gives giver wants wanted n j far e first apart = rw (first, apart, e)
 
 -- and is small
 pub start_small

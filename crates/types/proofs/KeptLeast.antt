@@ -16,7 +16,7 @@ use Rattle.owed.proofs.Lowest.{lowest_le, lowest_from}
 use Rattle.types.specs.Least.{step, turns, ones_from, ones_at, least_ones, first_below, first_short}
 use Rattle.types.specs.Promises.{LeastOf, FirstFailing}
 use Rattle.types.proofs.KeptFirst.{First, first_below_lem}
-use Rattle.types.proofs.KeptStarts.{start_number, number_starts, turn, turn_lt, turn_self, turn-none-fewer, written-honours}
+use Rattle.types.proofs.KeptStarts.{start_number, number_starts, turn, turn_lt, turn_self, turn_none_fewer, written_honours}
 
 module _ (gives : Kind) {giver : SlotType} (wants : Kind) (wanted : SlotType) (well : Bounds giver) where
   -- the count is that of one of the starts looked at
@@ -51,29 +51,29 @@ module _ (gives : Kind) {giver : SlotType} (wants : Kind) (wanted : SlotType) (w
         none_fewer = λ α honours s starts.
             let (b, at_b) = start_number wants wanted s starts in
             let looked-at = lowest_le (ones_at giver wants wanted) wanted.t (turns gives giver) (turn gives giver b) (turn_lt gives giver well.some b) in
-            rw at_b (le_trans looked-at (turn-none-fewer well gives wants wanted α honours b));
+            rw at_b (le_trans looked-at (turn_none_fewer well gives wants wanted α honours b));
         allocation = written giver.c giver.t (j * step wants wanted) wanted.t;
-        honours = written-honours well gives wants wanted j l;
+        honours = written_honours well gives wants wanted j l;
         start = j * step wants wanted;
         starts = number_starts wants wanted j;
         just = sym e;
       }
 
   -- the first start looked at that falls short is the first of all
-  pub first-failing
+  pub first_failing
       : least_ones gives giver wants wanted < wanted.c
       → FirstFailing gives giver wants wanted (first_short gives giver wants wanted) (ones_from giver wanted (first_short gives giver wants wanted))
   unfolding first_short ones_at ones_from
-  first-failing fewer =
+  first_failing fewer =
       let (j, l, e) = least_reached in
       let f : ℕ → ℕ = ones_at giver wants wanted in
       let i : ℕ = first_below f wanted.c 0 (turns gives giver) in
       let found : First f wanted.c (turns gives giver) i = first_below_lem f wanted.c (turns gives giver) j l (rw (← e) fewer) in
       let here : (k : ℕ) → k ≤ i → (α : Allocation) → Honours gives giver α → f k ≤ ones α (k * step wants wanted) wanted.t =
-      λ k before α honours. rw (turn_self gives giver k (omega arith)) at (turn-none-fewer well gives wants wanted α honours k) in
+      λ k before α honours. rw (turn_self gives giver k (omega arith)) at (turn_none_fewer well gives wants wanted α honours k) in
       record {
         starts = number_starts wants wanted i;
-        honours = written-honours well gives wants wanted i found.within;
+        honours = written_honours well gives wants wanted i found.within;
         just = refl;
         falls_short = found.below;
         none_fewer = here i (omega arith);

@@ -46,25 +46,25 @@ turn_self Sliding giver b l = omega arith
 
 module _ {giver : SlotType} (well : Bounds giver) where
   -- an honouring allocation has in wanted window b at least the ones of the start that is looked at for it
-  pub turn-none-fewer
+  pub turn_none_fewer
       : (gives wants : Kind) (wanted : SlotType) (α : Allocation) → Honours gives giver α → (b : ℕ)
       → ones_at giver wants wanted (turn gives giver b) ≤ ones α (b * step wants wanted) wanted.t
   unfolding ones_at ones_from turn
-  turn-none-fewer Aligned wants wanted α honours b =
+  turn_none_fewer Aligned wants wanted α honours b =
       let at : ℕ = b % giver.t * step wants wanted in
       rw (written_ones giver.c giver.t well.some well.fits at wanted.t, ← owed_turn _ _ (step wants wanted) wanted.t b well.some)
       (bound giver.c giver.t well.some well.fits α (λ k. honours (k * giver.t) (k, refl)) (b * step wants wanted) wanted.t)
-  turn-none-fewer Sliding wants wanted α honours b =
+  turn_none_fewer Sliding wants wanted α honours b =
       rw (zero-mul (step wants wanted), written_ones giver.c giver.t well.some well.fits 0 wanted.t)
       (bound_sliding giver.c giver.t well.some well.fits α (λ s. honours s tt) (b * step wants wanted) wanted.t)
 
   -- and at a start that is looked at the written allocation honours the giver
-  pub written-honours
+  pub written_honours
       : (gives wants : Kind) (wanted : SlotType) (j : ℕ) → j < turns gives giver
       → Honours gives giver (written giver.c giver.t (j * step wants wanted) wanted.t)
   unfolding turns
-  written-honours Aligned wants wanted j l s (b, e) =
+  written_honours Aligned wants wanted j l s (b, e) =
       rw e (written_aligned giver.c giver.t well.some well.fits (j * step wants wanted) wanted.t b)
-  written-honours Sliding wants wanted j l s h =
+  written_honours Sliding wants wanted j l s h =
       let first : j ≡ 0 = omega arith in
       rw (first, zero-mul (step wants wanted)) (written_sliding giver.c giver.t well.some well.fits wanted.t s)

@@ -28,8 +28,8 @@ use Rattle.types.specs.Promises.{FirstFailing, Shown, NoRoom, NoHasWitness, Slid
 use Rattle.types.specs.declared.Verdict.TheVariants.{Short}
 use Rattle.types.proofs.Answers.{no_room, no_room_kept, shown, shown_written, too_few, short_fails, short_written}
 use Rattle.types.proofs.Stretch.{length_bytes, kept_long}
-use Rattle.types.proofs.KeptLeast.{first-failing}
-use Rattle.types.proofs.Kept.{holds-stands-in, failing_kept}
+use Rattle.types.proofs.KeptLeast.{first_failing}
+use Rattle.types.proofs.Kept.{holds_stands_in, failing_kept}
 
 -- the bytes of n slots at the front of a buffer
 module _ (α : Allocation) (from : ℕ) where
@@ -107,7 +107,7 @@ no_has_witness gives giver wants wanted g w not_so = (
   ones_from giver wanted (first_short gives giver wants wanted),
   _,
   record {
-    first = first-failing gives wants wanted (bounds giver g) fewer;
+    first = first_failing gives wants wanted (bounds giver g) fewer;
     stretch = refl;
     shown = short_shown gives giver wants wanted g w fewer;
     no_room = short_refused gives giver wants wanted g w fewer;
@@ -115,7 +115,7 @@ no_has_witness gives giver wants wanted g w not_so = (
 )
   where
     go : (wanted.c ≤ least_ones gives giver wants wanted) ⊎ (least_ones gives giver wants wanted < wanted.c) → least_ones gives giver wants wanted < wanted.c
-    go (inl h) = absurd (not_so (holds-stands-in gives giver wants wanted g w (le-leb _ _ h)))
+    go (inl h) = absurd (not_so (holds_stands_in gives giver wants wanted g w (le-leb _ _ h)))
     go (inr l) = l
 
     fewer : least_ones gives giver wants wanted < wanted.c
@@ -127,9 +127,9 @@ starts_at_zero Aligned T = (0, sym (zero-mul T))
 starts_at_zero Sliding T = tt
 
 -- an allocation that honours a sliding giver does so seen from any slot on, so what fails at a later start fails at 0
-pub sliding-first-zero
+pub sliding_first_zero
     : (giver : SlotType) (wants : Kind) (wanted : SlotType) (s o : ℕ) → FirstFailing Sliding giver wants wanted s o → s ≡ 0
-sliding-first-zero giver wants wanted s o f = go (dec_lt 0 s)
+sliding_first_zero giver wants wanted s o f = go (dec_lt 0 s)
   where
     α : Allocation
     α = written giver.c giver.t s wanted.t
@@ -143,4 +143,4 @@ sliding-first-zero giver wants wanted s o f = go (dec_lt 0 s)
 
 -- a failing decision with a sliding giver has start 0
 pub sliding_from_zero : SlidingFromZero
-sliding_from_zero giver wants wanted room s o n e = sliding-first-zero giver wants wanted s o (failing_kept Sliding giver wants wanted room s o n e)
+sliding_from_zero giver wants wanted room s o n e = sliding_first_zero giver wants wanted s o (failing_kept Sliding giver wants wanted room s o n e)

@@ -33,10 +33,10 @@ module _ (giver wanted : SlotType) (s : ℕ) where
   to_behind g = omega (arith, lt-div-mul-add {a = s + wanted.t + (giver.t - 1)} (period_positive giver g))
 
   -- and it is small, as is any multiple of T up to a period behind the window
-  pub to-small
+  pub to_small
       : (y : ℕ) → well_formed giver ≡ true → well_formed wanted ≡ true → s ≤ last_start
       → (s + wanted.t + (giver.t - y)) / giver.t * giver.t ≤ last_slot
-  to-small y g w near =
+  to_small y g w near =
       omega (arith, div-mul-le_self (s + wanted.t + (giver.t - y)) giver.t, period_most giver g, period_most wanted w)
 
 -- slot n of the written allocation

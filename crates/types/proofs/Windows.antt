@@ -136,12 +136,12 @@ module _ (giver : SlotType) (n d : ℕ) (g : well_formed giver ≡ true) (common
   high_small = omega (arith, low_small, le_of_dvd (period_positive giver g) common.left, period_most giver g)
 
   -- an aligned giver owes least at the last multiple of the divisor up to C or at the next one
-  pub least-two
+  pub least_two
       : (wants : Kind) (wanted : SlotType) → well_formed wanted ≡ true → n ≡ step wants wanted
       → least_ones Aligned giver wants wanted
       ≡ min (ones_from giver wanted (giver.c / d * d)) (ones_from giver wanted (giver.c / d * d + d))
   unfolding least_ones turns ones_at at
-  least-two wants wanted w e =
+  least_two wants wanted w e =
       let reach = common_reached giver.t n d (rw e (step_positive wants wanted w)) common in
       rw (owed_from giver wanted (giver.c / d * d) g, owed_from giver wanted (giver.c / d * d + d) g)
       (lowest_ext (ones_at giver wants wanted) (at giver.c giver.t n wanted.t) wanted.t giver.t (λ j l. rw e (owed_from giver wanted _ g))
@@ -154,21 +154,21 @@ module _ (giver : SlotType) (n d : ℕ) (g : well_formed giver ≡ true) (common
       (wants : Kind) (wanted : SlotType) (a b : ℕ) (w : well_formed wanted ≡ true) (e : n ≡ step wants wanted)
       (left : a ≡ ones_from giver wanted (giver.c / d * d)) (right : b ≡ ones_from giver wanted (giver.c / d * d + d)) where
     pub least_left : a ≤ b → a ≡ least_ones Aligned giver wants wanted
-    least_left h = omega (arith, least-two wants wanted w e)
+    least_left h = omega (arith, least_two wants wanted w e)
 
     pub least_right : b < a → b ≡ least_ones Aligned giver wants wanted
-    least_right h = omega (arith, least-two wants wanted w e)
+    least_right h = omega (arith, least_two wants wanted w e)
 
 -- a sliding giver is looked at from start 0 alone
-pub least-sliding
+pub least_sliding
     : (gives : Kind) (giver : SlotType) (wants : Kind) (wanted : SlotType) (r : ℕ) → gives ≡ Sliding → r ≡ ones_from giver wanted 0
     → r ≡ least_ones gives giver wants wanted
 unfolding least_ones turns ones_at lowest
-least-sliding gives giver wants wanted r e h =
+least_sliding gives giver wants wanted r e h =
     rw (e, zero-mul (step wants wanted), ← h) (omega (arith, ones_from_le giver wanted 0))
 
 -- an aligned one from each of its starts
-pub least-of-aligned
+pub least_of_aligned
     : (gives : Kind) (giver : SlotType) (wants : Kind) (wanted : SlotType) (r : ℕ) → gives ≡ Aligned
     → r ≡ least_ones Aligned giver wants wanted → r ≡ least_ones gives giver wants wanted
-least-of-aligned gives giver wants wanted r e h = rw e h
+least_of_aligned gives giver wants wanted r e h = rw e h

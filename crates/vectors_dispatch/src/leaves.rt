@@ -44,9 +44,9 @@ fn leaf(
 {
     let on = answers_in(step, cores);
     let size = answers_in(wanted.t, cores);
-    show::number(rt, ", leaf ", i as u64)?;
-    show::number(rt, " wants ", wanted.c as u64)?;
-    show::number(rt, "/", wanted.t as u64)?;
+    show::number(rt, b", leaf ", i as u64)?;
+    show::number(rt, b" wants ", wanted.c as u64)?;
+    show::number(rt, b"/", wanted.t as u64)?;
     print!(rt; " received")?;
     if 0 < on && on <= size && size <= answers.len() {
         windows(rt, answers, i as u8, on, size)?;
@@ -70,7 +70,7 @@ fn windows(rt: &impl Print, answers: &[u8], i: u8, on: usize, size: usize) -> io
     let last = answers.len() - size;
     let mut at: usize = 0;
     while at <= last {
-        show::number(rt, " ", received(&answers[at..at + size], i))?;
+        show::number(rt, b" ", received(&answers[at..at + size], i))?;
         at += on;
     }
     Ok(())

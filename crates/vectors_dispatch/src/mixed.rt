@@ -124,7 +124,7 @@ fn run(
     let end = ran.outcome;
     print!(rt; "run ")?;
     show::setting(rt, setting)?;
-    show::number(rt, " ", supplied.len() as u64)?;
+    show::number(rt, b" ", supplied.len() as u64)?;
     show::outcome_of(rt, end)?;
     Ok(ran.state)
 }

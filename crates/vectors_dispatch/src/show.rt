@@ -5,8 +5,9 @@ use dispatch::{Outcome, Ran, Setting, State, Stepped};
 use std::io;
 
 // The words, then n.
-pub fn number(rt: &impl Print, words: &str, n: u64) -> io::Result<()> {
-    print!(rt; "{words}{n}")
+pub fn number(rt: &impl Print, words: &[u8], n: u64) -> io::Result<()> {
+    rt.write_all(words)?;
+    print!(rt; "{n}")
 }
 
 pub fn ran(rt: &impl Print, ran: Ran, size: usize) -> io::Result<()> {
@@ -53,7 +54,7 @@ fn outcome(rt: &impl Print, o: Outcome) -> io::Result<()> {
 // The clock, the counts of `size` nodes, and those after them up to the last that is not 0.
 pub fn state(rt: &impl Print, s: State, size: usize) -> io::Result<()> {
     let left = s.left;
-    number(rt, "clock ", s.clock)?;
+    number(rt, b"clock ", s.clock)?;
     print!(rt; ", left")?;
     counts(rt, &left, end_of(&left, size))
 }
@@ -81,7 +82,7 @@ fn counts(rt: &impl Print, left: &[u16; 64], n: usize) -> io::Result<()>
 }
 
 fn count(rt: &impl Print, n: u16) -> io::Result<()> {
-    number(rt, " ", n as u64)
+    number(rt, b" ", n as u64)
 }
 
 // Each answer after a space or, within a slot, after a comma.
@@ -108,6 +109,6 @@ fn answer(rt: &impl Print, a: u8) -> io::Result<()> {
         254 => print!(rt; "-"),
         255 => print!(rt; "x"),
         200 => print!(rt; "."),
-        _ => number(rt, "", a as u64),
+        _ => number(rt, b"", a as u64),
     }
 }

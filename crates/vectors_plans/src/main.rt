@@ -49,12 +49,12 @@ fn read(rt: &impl Print, file: &[u8]) -> io::Result<()> {
     let answer = reading.answer;
     match answer {
         answers::Answer::Accepted => {
-            show::number(rt, "accepted ", reading.plan.size)?;
+            show::number(rt, b"accepted ", reading.plan.size)?;
             nodes(rt, file, reading.plan)
         }
         answers::Answer::Refused { number, place } => {
-            show::number(rt, "refused ", number as usize)?;
-            show::number(rt, " at ", place)
+            show::number(rt, b"refused ", number as usize)?;
+            show::number(rt, b" at ", place)
         }
     }
 }
@@ -65,7 +65,7 @@ fn nodes(rt: &impl Print, file: &[u8], plan: Plan) -> io::Result<()> {
         print!(rt; ":")?;
         names(rt, file, plan.size)
     } else {
-        show::number(rt, " of edition ", plan.edition as usize)?;
+        show::number(rt, b" of edition ", plan.edition as usize)?;
         print!(rt; ":")?;
         names_with_misses(rt, file, plan)
     }
@@ -92,14 +92,14 @@ fn names_with_misses(rt: &impl Print, file: &[u8], plan: Plan) -> io::Result<()>
 // D and W of a node.
 fn misses(rt: &impl Print, node: Node) -> io::Result<()> {
     let misses = node.misses;
-    show::number(rt, " ", misses.d as usize)?;
-    show::number(rt, "/", misses.w as usize)
+    show::number(rt, b" ", misses.d as usize)?;
+    show::number(rt, b"/", misses.w as usize)
 }
 
 // The name of node i. It is empty where the plan is refused or has no such node.
 fn ask(rt: &impl Print, file: &[u8], i: usize) -> io::Result<()> {
     let name = reader::name(file, i);
-    show::number(rt, ", node ", i)?;
+    show::number(rt, b", node ", i)?;
     if name.len() == 0 {
         print!(rt; " has no name")
     } else {

@@ -104,25 +104,26 @@ fn show_begins(rt: &impl Print, p: u32, q: u32, n: u64) -> io::Result<()> {
 }
 
 fn show_start(rt: &impl Print, p: u32, q: u32, n: u64) -> io::Result<()> {
-    ask(rt, "start", p, q, n)?;
+    ask(rt, b"start ", p, q, n)?;
     let tick = Tick { p: p, q: q };
     tell(rt, ticks::start(tick, n))
 }
 
 fn show_minute(rt: &impl Print, p: u32, q: u32, n: u64) -> io::Result<()> {
-    ask(rt, "minute", p, q, n)?;
+    ask(rt, b"minute ", p, q, n)?;
     let tick = Tick { p: p, q: q };
     tell(rt, ticks::minute(tick, n))
 }
 
 fn show_slot(rt: &impl Print, p: u32, q: u32, t: u64) -> io::Result<()> {
-    ask(rt, "slot", p, q, t)?;
+    ask(rt, b"slot ", p, q, t)?;
     let tick = Tick { p: p, q: q };
     tell(rt, ticks::slot(tick, t))
 }
 
-fn ask(rt: &impl Print, call: &str, p: u32, q: u32, n: u64) -> io::Result<()> {
-    print!(rt; "{call} {p}/{q} of {n}: ")
+fn ask(rt: &impl Print, call: &[u8], p: u32, q: u32, n: u64) -> io::Result<()> {
+    rt.write_all(call)?;
+    print!(rt; "{p}/{q} of {n}: ")
 }
 
 fn tell(rt: &impl Print, a: Answer) -> io::Result<()> {

@@ -24,14 +24,14 @@ fn one_side(rt: &impl Print, a: Side) -> io::Result<()> {
 
 pub fn decision(rt: &impl Print, answer: types::Decision) -> io::Result<()> {
     match answer {
-        types::Decision::Holds(ones) => counted(rt, "holds", ones),
+        types::Decision::Holds(ones) => counted(rt, b"holds ", ones),
         types::Decision::Fails {
             start,
             ones,
             length,
         } => {
             print!(rt; "fails at {start}")?;
-            counted(rt, " with", ones)?;
+            counted(rt, b" with ", ones)?;
             print!(rt; " of {length}")
         }
         types::Decision::Refused { number, place } => refused(rt, number, place),
@@ -40,14 +40,15 @@ pub fn decision(rt: &impl Print, answer: types::Decision) -> io::Result<()> {
 
 pub fn verdict(rt: &impl Print, answer: types::Verdict) -> io::Result<()> {
     match answer {
-        types::Verdict::Holds(ones) => counted(rt, "holds", ones),
-        types::Verdict::Short(ones) => counted(rt, "short", ones),
+        types::Verdict::Holds(ones) => counted(rt, b"holds ", ones),
+        types::Verdict::Short(ones) => counted(rt, b"short ", ones),
         types::Verdict::Refused { number, place } => refused(rt, number, place),
     }
 }
 
-fn counted(rt: &impl Print, words: &str, n: u16) -> io::Result<()> {
-    print!(rt; "{words} {n}")
+fn counted(rt: &impl Print, words: &[u8], n: u16) -> io::Result<()> {
+    rt.write_all(words)?;
+    print!(rt; "{n}")
 }
 
 // The number of a refusal, and its place where it has one.

@@ -33,9 +33,9 @@ module _ {served wanted : SlotType} {K u : ℕ} (losing : Losing served wanted K
   stands_in_by_windows stands α honours b = stands (met Aligned wanted α) (losing.bound α honours) (b * misses.w) (b, refl)
 
   -- and only there
-  pub windows-stand-in
+  pub windows_stand_in
       : StandsInSoft Aligned served Aligned wanted misses → StandsIn Aligned ((K - u) of K) Aligned ((misses.w - misses.d) of misses.w)
-  windows-stand-in stands β honours s (b, e) =
+  windows_stand_in stands β honours s (b, e) =
       let meeting = losing.reach β honours in
       rw e
       (le_trans (stands meeting.given meeting.honours b)

@@ -124,16 +124,20 @@ place_fits plan keeps clock k i l h =
     let few : i * plan.cores ≤ i * 8 = mul-le-mul_left i (cores_most plan keeps) in
     record { fits = omega arith }
 
+-- a refusal is not done
+refusal_not_done : Refusal Done → ⊥
+refusal_not_done h = h refl
+
 -- a refusal hands back the given state,
 refused_state : (o : Outcome) → Refusal o → (state : Standing) (k : ℕ) (c : Course) → state_by (said o) state k c ≡ state
-refused_state Done h state k c = absurd (h refl)
+refused_state Done h state k c = absurd (refusal_not_done h)
 refused_state Beyond h state k c = refl
 refused_state Unfit h state k c = refl
 refused_state Misfit h state k c = refl
 
 -- and writes nowhere
 refused_room : (o : Outcome) → Refusal o → (n : ℕ) (c : Course) (out : List ℕ) → out_by (said o) n c out ≡ out
-refused_room Done h n c out = absurd (h refl)
+refused_room Done h n c out = absurd (refusal_not_done h)
 refused_room Beyond h n c out = refl
 refused_room Unfit h n c out = refl
 refused_room Misfit h n c out = refl

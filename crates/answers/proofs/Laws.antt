@@ -9,13 +9,15 @@ use native.Mathlib.Numerals.{add-one}
 use native.Mathlib.Omega.{arith}
 use lib.Dec.{eqb}
 use borrow.Author.Tests.{eqb-true, ne_eqb}
-use Rattle.answers.specs.Answers.{Place, none, at as place, nowhere, placed, accepted, refused as refuses, said, accepts, first, test, each}
-use Rattle.answers.specs.declared.Answer.{Answer}
-use Rattle.answers.specs.declared.Answer.TheVariants.{Accepted, Refused}
+use Rattle.std.specs.Prelude.{Result, Ok, Err}
+use Rattle.answers.specs.declared.Refusal.{Refusal}
+use Rattle.answers.specs.declared.Refusal.TheVariants.{Unfit, Broken}
+use Rattle.answers.specs.declared.Rule.TheVariants.{There, Count, Tick, WellFormed, Kind, Parent, Depth, Name, NewName, End, StandsIn, Multiple, Alike, Load, Misses, Soft}
+use Rattle.answers.specs.Answers.{Place, answered, number_of, place_in, spot, none, at as place, nowhere, placed, Answer, Accepted, Refused, accepted, refused as refuses, said, accepts, first, test, each}
 
--- an answer is a refusal, as the `else` of a `let Answer::Accepted = a` finds it
-abbrev pub Refusal : Answer → Type 0
-Refusal a = a ≡ Accepted → ⊥
+-- an answer is a refusal
+abbrev pub IsRefused : Answer → Type 0
+IsRefused a = a ≡ Accepted → ⊥
 
 -- the number that stands for a place
 abbrev pub unplaced : ℕ → Place → ℕ
@@ -39,6 +41,66 @@ said_injective (Refused r k) (Refused r' k') e =
     let alike : placed nowhere k ≡ placed nowhere k' = cc in
     let same = sym (unplaced_placed nowhere k) ∙ ap (unplaced nowhere) alike ∙ unplaced_placed nowhere k' in
     cc
+
+-- each rule has a number of its own, and none has that of an unfit value
+rule_numbered : ℕ → Refusal
+rule_numbered n =
+    cond (eqb n 1) (Broken There 0)
+    (cond (eqb n 2) (Broken Count 0)
+    (cond (eqb n 3) (Broken Tick 0)
+    (cond (eqb n 4) (Broken WellFormed 0)
+    (cond (eqb n 5) (Broken Kind 0)
+    (cond (eqb n 6) (Broken Parent 0)
+    (cond (eqb n 7) (Broken Depth 0)
+    (cond (eqb n 8) (Broken Name 0)
+    (cond (eqb n 9) (Broken NewName 0)
+    (cond (eqb n 10) (Broken End 0)
+    (cond (eqb n 11) (Broken StandsIn 0)
+    (cond (eqb n 12) (Broken Multiple 0)
+    (cond (eqb n 13) (Broken Alike 0)
+    (cond (eqb n 14) (Broken Load 0)
+    (cond (eqb n 19) (Broken Misses 0)
+    (cond (eqb n 20) (Broken Soft 0)
+    Unfit)))))))))))))))
+
+with_place : ℕ → Refusal → Refusal
+with_place k Unfit = Unfit
+with_place k (Broken r k') = Broken r k
+
+read_back : (e : Refusal) → with_place (spot (place_in e)) (rule_numbered (number_of e)) ≡ e
+unfolding with_place rule_numbered
+read_back Unfit = refl
+read_back (Broken There k) = refl
+read_back (Broken Count k) = refl
+read_back (Broken Tick k) = refl
+read_back (Broken WellFormed k) = refl
+read_back (Broken Kind k) = refl
+read_back (Broken Parent k) = refl
+read_back (Broken Depth k) = refl
+read_back (Broken Name k) = refl
+read_back (Broken NewName k) = refl
+read_back (Broken End k) = refl
+read_back (Broken StandsIn k) = refl
+read_back (Broken Multiple k) = refl
+read_back (Broken Alike k) = refl
+read_back (Broken Load k) = refl
+read_back (Broken Misses k) = refl
+read_back (Broken Soft k) = refl
+
+-- so two refusals with one number and one place are the same,
+refusal_injective : (e f : Refusal) → number_of e ≡ number_of f → spot (place_in e) ≡ spot (place_in f) → e ≡ f
+refusal_injective e f n p =
+    sym (read_back e) ∙ ap (λ k. with_place k (rule_numbered (number_of e))) p ∙ ap (λ m. with_place (spot (place_in f)) (rule_numbered m)) n ∙ read_back f
+
+-- and two results that are one answer
+pub answered_injective : (a b : Result Unit Refusal) → answered a ≡ answered b → a ≡ b
+answered_injective (Ok u) (Ok v) e = refl
+answered_injective (Ok u) (Err f) e = cc
+answered_injective (Err f) (Ok u) e = cc
+answered_injective (Err f) (Err g) e =
+    let numbers : number_of f ≡ number_of g = cc in
+    let places : spot (place_in f) ≡ spot (place_in g) = cc in
+    ap Err (refusal_injective f g numbers places)
 
 -- an answer that says that nothing is refused is accepted
 pub said_accepted : (a : Answer) → said a ≡ accepted → a ≡ Accepted
@@ -207,22 +269,11 @@ module _ (f : ℕ → Answer) where
   each_ext g n h = each_alike g n (λ i l e. h i l)
 
 -- a refusal has a number and a place
-refusal : (a : Answer) → Refusal a → (r : ℕ) × (k : ℕ) × (a ≡ Refused r k)
+refusal : (a : Answer) → IsRefused a → (r : ℕ) × (k : ℕ) × (a ≡ Refused r k)
 refusal Accepted h = absurd (h refl)
 refusal (Refused r k) h = (r, k, refl)
 
--- Checks one after another, each by `let Answer::Accepted = a else { return a; };`, where x is what a is held to and y is what follows. A refusal
--- is the answer of the whole:
-pub first_stop : (a x y : Answer) → a ≡ x → Refusal a → a ≡ first x y
-first_stop a x y e h =
-    let (r, k, is) = refusal a h in
-    e ∙ sym (first_first x y r k (sym e ∙ is))
-
--- and past an accepted answer the rest is
-pub first_past : (a x b y : Answer) → a ≡ x → a ≡ Accepted → b ≡ y → b ≡ first x y
-first_past a x b y e h l = l ∙ sym (first_second x y (sym e ∙ h))
-
--- A loop that tests f 0, f 1, .. below n and stops at the first refusal, by `let Answer::Accepted = a else { return a; };`. Its invariant:
+-- A loop that tests f 0, f 1, .. below n and stops at the first refusal, by `?`. Its invariant:
 -- (i ≤ n) × (each f i ≡ Accepted). At its start nothing is refused:
 module _ (f : ℕ → Answer) where
   pub each_none : each f 0 ≡ Accepted
@@ -236,7 +287,7 @@ module _ (f : ℕ → Answer) where
     each_more a at h = rw (add-one i) (first_accepted _ _ e (sym at ∙ h))
 
     -- the loop stops early, with the first refusal
-    pub each_stop : (n : ℕ) (a : Answer) → a ≡ f i → Refusal a → i < n → a ≡ each f n
+    pub each_stop : (n : ℕ) (a : Answer) → a ≡ f i → IsRefused a → i < n → a ≡ each f n
     each_stop n a at h l =
         let (r, k, is) = refusal a h in
         is ∙ sym (each_refused f n i r k l e (sym at ∙ is))

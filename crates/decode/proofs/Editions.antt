@@ -2,7 +2,7 @@
 use Prim.Native.Nat.{ℕ, suc, ◌+◌, ◌*◌, ◌≤◌}
 use mathlib.Core.Bool.{Bool, true, false, cond}
 use mathlib.Core.List.{List}
-use mathlib.Core.Path.{◌≡◌, refl, sym, ap, ◌∙◌}
+use mathlib.Core.Path.{◌≡◌, refl, ap, ◌∙◌}
 use native.Mathlib.Omega.{arith}
 use lib.Dec.{eqb}
 use borrow.Author.Tests.{ne_eqb}
@@ -13,22 +13,15 @@ use Rattle.decode.specs.Positions.{edition_of, further, node_start}
 use Rattle.decode.specs.Decode.{misses_or}
 
 module _ (s : List ℕ) where
-  -- where the edition was read as e, it is so many bytes more in edition 2, and none in any other
-  pub further_two : (e n : ℕ) → e ≡ edition_of s → e ≡ 2 → n ≡ further s n
-  unfolding further
-  further_two e n is h = rw (← is, h)
-
-  pub further_not : (e n : ℕ) → e ≡ edition_of s → (e ≡ 2 → ⊥) → 0 ≡ further s n
-  unfolding further
-  further_not e n is h = rw (← is, ne_eqb e 2 h)
-
   -- so many bytes more in edition 2,
   pub further_second : (n : ℕ) → edition_of s ≡ 2 → further s n ≡ n
-  further_second n e = sym (further_two 2 n (sym e) refl)
+  unfolding further
+  further_second n e = rw e
 
   -- and none in any other
   pub further_other : (n : ℕ) → (edition_of s ≡ 2 → ⊥) → further s n ≡ 0
-  further_other n h = sym (further_not (edition_of s) n refl h)
+  unfolding further
+  further_other n h = rw (ne_eqb (edition_of s) 2 h)
 
   -- never more than so many
   pub further_most : (n : ℕ) → further s n ≤ n

@@ -1,4 +1,4 @@
-pub mod Bytes
 pub mod Editions
 pub mod Filled
 pub mod Entries
+pub mod Made

@@ -5,32 +5,28 @@
 ghost use Rattle.std.specs.Prelude.{◌≡◌, ◌≤◌, min, replicate};
 ghost use Rattle.plans.specs.Plan.{zero_type, zero_node};
 ghost use Rattle.decode.specs.Positions.{edition_of, further, cores_at, cores_of, size_of, nodes_at, names_at};
-ghost use Rattle.decode.specs.Decode.{kind_named, parent_named, is_named, parent_or, misses_or, supply_of, node_of, filled, plan_of};
+ghost use Rattle.decode.specs.Decode.{parent_named, misses_or, supply_of, node_of, filled, plan_of};
 
 use meaning::{Misses, SlotType};
-use plans::{Node, NodeKind, Plan};
+use plans::{NO_MISSES, Node, NodeKind, Parent, Plan, ZERO_NODE, ZERO_TYPE};
+use std::array;
 use ticks::Tick;
 
-// What a parent byte names.
-#[derive(Clone, Copy)]
-pub enum Named {
-    Parent(plans::Parent),
-    Nothing,
-}
-
-// Each arm names a parent, or nothing.
-pub fn parent_named(b: u8) -> Named
+// What a parent byte names, if anything: there are at most 8 supplies and 64 nodes. Each arm names a parent, or nothing.
+#[tactic(auto, unfolding(crate::specs::Decode::parent_named, crate::specs::Decode::can_be, plans::specs::Bytes::parent_of_byte))]
+pub fn parent_named(b: u8) -> Option<Parent>
     ensures { result ≡ parent_named b }
 {
     match b {
-        0..=7 => Named::Parent(plans::Parent::Supply(b)),
-        8..=127 => Named::Nothing,
-        128..=191 => Named::Parent(plans::Parent::Node(b - 128)),
-        192..=255 => Named::Nothing,
+        0..=7 => Some(Parent::Supply(b)),
+        8..=127 => None,
+        128..=191 => Some(Parent::Node(b - 128)),
+        192..=255 => None,
     }
 }
 
 // The edition, as the tick's count says it.
+#[tactic(auto, unfolding(crate::specs::Positions::edition_of))]
 pub fn edition_of(s: &[u8]) -> u8
     ensures { result ≡ edition_of s.now }
 {
@@ -38,6 +34,7 @@ pub fn edition_of(s: &[u8]) -> u8
 }
 
 // So many bytes more in edition 2.
+#[tactic(auto, unfolding(crate::specs::Positions::further))]
 pub fn further(s: &[u8], n: usize) -> usize
     ensures { (result ≡ further s.now n) × (result ≤ n) }
 {
@@ -45,6 +42,7 @@ pub fn further(s: &[u8], n: usize) -> usize
 }
 
 // Where the supplies' count stands.
+#[tactic(auto, unfolding(crate::specs::Positions::cores_at))]
 pub fn cores_at(s: &[u8]) -> usize
     ensures { (result ≡ cores_at s.now) × (result ≤ 17) }
 {
@@ -52,13 +50,15 @@ pub fn cores_at(s: &[u8]) -> usize
 }
 
 // The number of supplies, as the file says.
+#[tactic(auto, unfolding(crate::specs::Positions::cores_of))]
 pub fn cores_of(s: &[u8]) -> usize
     ensures { (result ≡ cores_of s.now) × (result ≤ 255) }
 {
-    fields::byte_at(s, cores_at(s)) as usize
+    fields::byte_at(s, cores_at(s)).into()
 }
 
 // Where the nodes' count stands.
+#[tactic(auto, unfolding(crate::specs::Positions::nodes_at, crate::specs::Positions::supply_start))]
 pub fn nodes_at(s: &[u8]) -> usize
     ensures { (result ≡ nodes_at s.now) × (result ≤ 1038) }
 {
@@ -66,13 +66,15 @@ pub fn nodes_at(s: &[u8]) -> usize
 }
 
 // The number of nodes, as the file says.
+#[tactic(auto, unfolding(crate::specs::Positions::size_of))]
 pub fn size_of(s: &[u8]) -> usize
     ensures { (result ≡ size_of s.now) × (result ≤ 255) }
 {
-    fields::byte_at(s, nodes_at(s)) as usize
+    fields::byte_at(s, nodes_at(s)).into()
 }
 
 // Where the names' count stands.
+#[tactic(auto, unfolding(crate::specs::Positions::names_at, crate::specs::Positions::node_start))]
 pub fn names_at(s: &[u8]) -> usize
     ensures { (result ≡ names_at s.now) × (result ≤ 4609) }
 {
@@ -81,72 +83,53 @@ pub fn names_at(s: &[u8]) -> usize
 }
 
 // The plan value that the bytes spell.
+#[tactic(auto, unfolding(crate::specs::Decode::plan_of))]
 pub fn plan_of(s: &[u8]) -> Plan
     ensures { result ≡ plan_of s.now }
 {
-    let tick = Tick {
-        p: fields::four_at(s, 1),
-        q: fields::four_at(s, 5),
-    };
-    let cores = cores_of(s);
-    let supplies = supplies_of(s, smaller(cores, 8));
-    let size = size_of(s);
-    let nodes = nodes_of(s, smaller(size, 64));
     Plan {
         edition: edition_of(s),
-        tick,
-        cores,
-        supplies,
-        size,
-        nodes,
+        tick: Tick {
+            p: fields::four_at(s, 1),
+            q: fields::four_at(s, 5),
+        },
+        cores: cores_of(s),
+        supplies: supplies_of(s),
+        size: size_of(s),
+        nodes: nodes_of(s),
     }
 }
 
-fn supplies_of(s: &[u8], n: usize) -> [SlotType; 8]
-    requires { n ≤ 8 }
-    ensures { result ≡ filled (supply_of s.now) (replicate 8 zero_type) n }
+fn supplies_of(s: &[u8]) -> [SlotType; 8]
+    ensures { result ≡ filled (supply_of s.now) (replicate 8 zero_type) (min (cores_of s.now) 8) }
 {
-    let k = cores_at(s) + 1;
-    let mut all = [SlotType { c: 0, t: 0 }; 8];
-    let mut i: usize = 0;
-    while i < n {
-        all[i] = fields::type_at(s, k + 4 * i);
-        i += 1;
-    }
-    all
+    let cores = cores_of(s);
+    let start = cores_at(s) + 1;
+    array::from_fn(|i| {
+        if i < cores {
+            fields::type_at(s, start + 4 * i)
+        } else {
+            ZERO_TYPE
+        }
+    })
 }
 
-fn nodes_of(s: &[u8], n: usize) -> [Node; 64]
-    requires { n ≤ 64 }
-    ensures { result ≡ filled (node_of s.now) (replicate 64 zero_node) n }
+fn nodes_of(s: &[u8]) -> [Node; 64]
+    ensures { result ≡ filled (node_of s.now) (replicate 64 zero_node) (min (size_of s.now) 64) }
 {
-    let none = SlotType { c: 0, t: 0 };
-    let zero = Node {
-        kind: NodeKind::AlignedLeaf,
-        parent: plans::Parent::Supply(0),
-        wanted: none,
-        misses: Misses { d: 0, w: 0 },
-        served: none,
-    };
-    let mut all = [zero; 64];
-    let mut i: usize = 0;
-    while i < n {
-        all[i] = node_of(s, i);
-        i += 1;
-    }
-    all
+    let size = size_of(s);
+    array::from_fn(|i| if i < size { node_of(s, i) } else { ZERO_NODE })
 }
 
+#[tactic(auto, unfolding(crate::specs::Decode::node_of, crate::specs::Decode::parent_or, crate::specs::Positions::node_start, crate::specs::Positions::served_at))]
 fn node_of(s: &[u8], i: usize) -> Node
     requires { i ≤ 64 }
     ensures { result ≡ node_of s.now i }
 {
     let k = nodes_at(s) + 1 + 10 * i + further(s, 4 * i);
-    let kind = kind_named(fields::byte_at(s, k));
-    let parent = parent_or(parent_named(fields::byte_at(s, k + 1)));
     Node {
-        kind,
-        parent,
+        kind: NodeKind::named(fields::byte_at(s, k).into()),
+        parent: parent_named(fields::byte_at(s, k + 1)).unwrap_or(Parent::Supply(0)),
         wanted: fields::type_at(s, k + 2),
         misses: misses_or(s, k + 6),
         served: fields::type_at(s, k + 6 + further(s, 4)),
@@ -154,47 +137,13 @@ fn node_of(s: &[u8], i: usize) -> Node
 }
 
 // The misses whose D begins at k in edition 2; none are allowed in edition 1.
+#[tactic(auto, unfolding(crate::specs::Decode::misses_or))]
 fn misses_or(s: &[u8], k: usize) -> Misses
     ensures { result ≡ misses_or s.now k }
 {
     if edition_of(s) == 2 {
         fields::misses_at(s, k)
     } else {
-        Misses { d: 0, w: 1 }
+        NO_MISSES
     }
-}
-
-fn kind_named(b: u8) -> NodeKind
-    ensures { result ≡ kind_named b }
-{
-    match b {
-        0 => NodeKind::AlignedLeaf,
-        1 => NodeKind::SlidingLeaf,
-        _ => NodeKind::Host,
-    }
-}
-
-fn parent_or(n: Named) -> plans::Parent
-    ensures { result ≡ parent_or n }
-{
-    match n {
-        Named::Parent(x) => x,
-        Named::Nothing => plans::Parent::Supply(0),
-    }
-}
-
-// Whether a parent byte names anything.
-pub fn is_named(n: Named) -> bool
-    ensures { result ≡ is_named n }
-{
-    match n {
-        Named::Parent(_) => true,
-        Named::Nothing => false,
-    }
-}
-
-fn smaller(a: usize, b: usize) -> usize
-    ensures { result ≡ min a b }
-{
-    if a <= b { a } else { b }
 }

@@ -1,13 +1,13 @@
 -- What specs/Promises.antt says of the choice, of counts, of steps and of runs holds. Assumes nothing.
 use Prim.Native.Nat.{ℕ, zero, suc, ◌+◌, ◌<◌}
-use mathlib.Core.Bool.{Bool, true, false, cond}
+use mathlib.Core.Bool.{Bool, true, false}
 use mathlib.Core.List.{List, ◌++◌, append-nil, append_assoc}
 use mathlib.Core.Path.{◌≡◌, refl, sym, ap, ◌∙◌}
-use lib.Dec.{eqb}
 use lib.ListN.{length, get_or, get_or-append}
 use lib.Seq.{get_or-append-add}
 use native.Mathlib.Nat.{add-zero, add-suc, add_assoc, le_refl}
 use native.Mathlib.Omega.{arith}
+use Rattle.std.proofs.Common.{Ok, Err}
 use Rattle.rules.proofs.Kept.{fits_exactly}
 use Rattle.rules.specs.Check.{is_fit}
 use Rattle.rules.specs.Fit.{Fit}
@@ -19,12 +19,13 @@ use Rattle.dispatch.proofs.Running.{course_one, grants_whole}
 use Rattle.dispatch.proofs.Passing.{is_nobody_lem, nobody_is, leaf_passed, host_kept, host_fixed}
 use Rattle.dispatch.specs.View.{View, view_of}
 use Rattle.dispatch.specs.Passed.{passed_over, levels_down}
-use Rattle.dispatch.specs.Run.{Said, done, refused, said, zero_state, started, Course, course_to, ran, out_after, stepped}
-use Rattle.dispatch.specs.Promises.{MayExactly, PassedExactly, ChoiceExactly, RefillExactly, FreshEnd, FreshExactly, EightLevels, RunsJoin, StepIsSlot, OneOutcome}
+use Rattle.dispatch.specs.Run.{refused, number, said, standing, Standing, RunEnd, StepEnd, zero_state, started, Course, course_to, ran, out_after, stepped}
+use Rattle.dispatch.specs.Promises.{MayExactly, PassedExactly, ChoiceExactly, RefillExactly, FreshEnd, FreshExactly, EightLevels, RunsJoin, StepIsSlot, OneOutcome, OneFreshEnd, OneRunEnd, OneStepEnd}
 use Rattle.dispatch.specs.declared.Setting.{Setting}
 use Rattle.dispatch.specs.declared.Setting.TheVariants.{Off}
-use Rattle.dispatch.specs.declared.Outcome.{Outcome}
-use Rattle.dispatch.specs.declared.Outcome.TheVariants.{Done, Beyond, Unfit, Misfit}
+use Rattle.dispatch.specs.declared.Refusal.{Refusal}
+use Rattle.dispatch.specs.declared.State.{State}
+use Rattle.dispatch.specs.declared.Refusal.TheVariants.{Beyond, Unfit, Misfit}
 
 -- children with slots left may be taken, but for those passed over, and nobody else
 pub may_exactly : MayExactly
@@ -145,19 +146,53 @@ step_is_slot setting plan state supplied declined ends =
     let one = course_one setting plan state supplied declined in
     rw (ends, one, grants_whole setting plan state supplied declined)
 
--- the outcome that a saying tells
-outcome_of : Said → Outcome
-outcome_of done = Done
-outcome_of (refused r) = cond (eqb r 15) Beyond (cond (eqb r 16) Unfit Misfit)
+-- two refusals with one number are the same
+one_number : (r q : Refusal) → number r ≡ number q → r ≡ q
+one_number Beyond Beyond h = refl
+one_number Beyond Unfit h = absurd (omega arith)
+one_number Beyond Misfit h = absurd (omega arith)
+one_number Unfit Beyond h = absurd (omega arith)
+one_number Unfit Unfit h = refl
+one_number Unfit Misfit h = absurd (omega arith)
+one_number Misfit Beyond h = absurd (omega arith)
+one_number Misfit Unfit h = absurd (omega arith)
+one_number Misfit Misfit h = refl
 
--- tells it back
-outcome_told : (a : Outcome) → outcome_of (said a) ≡ a
-unfolding outcome_of
-outcome_told Done = refl
-outcome_told Beyond = refl
-outcome_told Unfit = refl
-outcome_told Misfit = refl
-
--- two outcomes that say the same are the same
+-- so two results that say the same are the same
 pub one_outcome : OneOutcome
-one_outcome a b e = sym (outcome_told a) ∙ ap outcome_of e ∙ outcome_told b
+one_outcome (Ok x) (Ok y) e = refl
+one_outcome (Ok x) (Err r) e = cc
+one_outcome (Err r) (Ok x) e = cc
+one_outcome (Err r) (Err q) e = ap Err (one_number r q cc)
+
+-- so are two states that stand alike,
+the_state : Standing → State
+the_state s = record { clock = s.clock; left = s.left }
+
+one_standing : (s t : State) → standing s ≡ standing t → s ≡ t
+unfolding the_state
+one_standing s t e = ap the_state e
+
+-- two starts that end alike,
+pub one_fresh_end : OneFreshEnd
+one_fresh_end (Ok s) (Ok t) e = ap Ok (one_standing s t (ap (λ (r : RunEnd). r.state) e))
+one_fresh_end (Ok s) (Err r) e = let words = ap (λ (r : RunEnd). r.outcome) e in cc
+one_fresh_end (Err r) (Ok s) e = let words = ap (λ (r : RunEnd). r.outcome) e in cc
+one_fresh_end (Err r) (Err q) e =
+    let words : refused (number r) ≡ refused (number q) = ap (λ (r : RunEnd). r.outcome) e in
+    let numbers : number r ≡ number q = cc in
+    ap Err (one_number r q numbers)
+
+-- two runs,
+pub one_run_end : OneRunEnd
+one_run_end a b s t e = (one_outcome a b (ap (λ (r : RunEnd). r.outcome) e), one_standing s t (ap (λ (r : RunEnd). r.state) e))
+
+-- and two steps
+pub one_step_end : OneStepEnd
+one_step_end (Ok g) (Ok h) s t e = (ap Ok (ap (λ (r : StepEnd). r.grants) e), one_standing s t (ap (λ (r : StepEnd). r.state) e))
+one_step_end (Ok g) (Err r) s t e = let words = ap (λ (r : StepEnd). r.outcome) e in cc
+one_step_end (Err r) (Ok g) s t e = let words = ap (λ (r : StepEnd). r.outcome) e in cc
+one_step_end (Err r) (Err q) s t e =
+    let words : refused (number r) ≡ refused (number q) = ap (λ (r : StepEnd). r.outcome) e in
+    let numbers : number r ≡ number q = cc in
+    (ap Err (one_number r q numbers), one_standing s t (ap (λ (r : StepEnd). r.state) e))

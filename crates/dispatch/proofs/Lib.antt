@@ -11,6 +11,7 @@ pub mod Charged
 pub mod Kept
 pub mod KeptUnused
 pub mod KeptRefusals
+pub mod Fitting
 pub mod Choosing
 pub mod Takers
 pub mod Counting

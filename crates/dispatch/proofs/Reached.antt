@@ -10,9 +10,9 @@ use borrow.Author.Tests.{eqb-true}
 use native.Mathlib.Nat.{zero-add, one-mul}
 use native.Mathlib.Omega.{arith}
 use Rattle.plans.proofs.All.{left_true}
+use Rattle.plans.proofs.Kept.{sound_kept}
 use Rattle.plans.specs.declared.Plan.{Plan}
 use Rattle.rules.specs.Check.{is_fit}
-use Rattle.dispatch.proofs.Counting.{cores_most}
 use Rattle.dispatch.proofs.Kept.{runs_join}
 use Rattle.dispatch.proofs.Refusals.{fits_sound, done_tests}
 use Rattle.dispatch.proofs.Running.{length_answers}
@@ -63,7 +63,7 @@ module _ (setting : Setting) (plan : Plan) (fit : is_fit plan ≡ true) (state :
   front_answers =
       let long =
       length_answers (view_of plan) plan.cores state.clock (replicate (length more) setting) more words state.left out
-      (cores_most plan (fits_sound plan fit)) (length more) in
+      (sound_kept plan (fits_sound plan fit)).eight_cores (length more) in
       rw (ends, take_at (course setting plan state more words).answers (drop (length more * plan.cores) out) (length more * plan.cores) long)
 
 -- one run more

@@ -13,19 +13,18 @@ use native.Mathlib.Decide.{ℕ_discrete, dec_lt}
 use native.Mathlib.Omega.{arith}
 use Rattle.plans.proofs.Kept.{sound_kept}
 use Rattle.plans.proofs.Parents.{host_earlier}
-use Rattle.plans.specs.Plan.{parent_of, same, node_at}
-use Rattle.plans.specs.Sound.{sound}
-use Rattle.plans.specs.declared.Node.{Node}
+use Rattle.plans.specs.Plan.{parent_of, same}
 use Rattle.plans.specs.declared.Parent.{Parent}
 use Rattle.plans.specs.declared.Parent.TheVariants.{Supply, Node as Under}
 use Rattle.plans.specs.declared.Plan.{Plan}
+use Rattle.rules.specs.Check.{is_fit}
+use Rattle.dispatch.proofs.Refusals.{fits_sound}
 use Rattle.dispatch.proofs.Choices.{eligible_under, none_choice, some_choice}
 use Rattle.dispatch.proofs.Passing.{nobody_is, leaf_passed, host_kept, host_fixed}
 use Rattle.dispatch.specs.View.{View, view_of, bit_of, is_leaf}
 use Rattle.dispatch.specs.Choice.{takes, eligible}
 use Rattle.dispatch.specs.Passed.{is_nobody, passed_to, passed_over}
 use Rattle.dispatch.specs.Words.{told, Tells, WithBits}
-use Rattle.dispatch.specs.declared.Setting.{Setting}
 use Rattle.dispatch.specs.declared.Setting.TheVariants.{Off, On}
 
 -- a power of two has one bit: at its exponent 1,
@@ -86,22 +85,13 @@ all_bits h l =
     ap (λ e. bit_of (2 ^ e - 1) h) (sym at) ∙ ones_bit d h
 
 -- With the switch off every host's bit is set, and no host is passed over:
-module _ (v : View) (left : List ℕ) (declines : ℕ) where
-  off_tells : v.size ≤ 64 → Tells Off v left declines 18446744073709551615
-  unfolding passed_over told
-  off_tells few i l = go (v.leaf i) refl
-    where
-      go : (b : Bool) → v.leaf i ≡ b → cond b (bit_of declines i) (not (bit_of 18446744073709551615 i)) ≡ passed_to v left declines 0 i
-      go true leaf = sym (leaf_passed v left declines 0 i leaf)
-      go false host = rw (all_bits i (omega arith)) (sym (host_kept v left declines i host))
-
-  module _ (setting : Setting) where
-    pub off_told : setting ≡ Off → v.size ≤ 64 → Tells setting v left declines 18446744073709551615
-    off_told e few = rw e (off_tells few)
-
-    -- and with it on the nodes are asked, from the last on
-    pub on_told : setting ≡ On → (r : ℕ) → Tells On v left declines r → Tells setting v left declines r
-    on_told e r tells = rw e tells
+pub off_tells : (v : View) (left : List ℕ) (declines : ℕ) → v.size ≤ 64 → Tells Off v left declines (told v declines 18446744073709551615)
+unfolding passed_over told
+off_tells v left declines few i l = go (v.leaf i) refl
+  where
+    go : (b : Bool) → v.leaf i ≡ b → cond b (bit_of declines i) (not (bit_of 18446744073709551615 i)) ≡ passed_to v left declines 0 i
+    go true leaf = sym (leaf_passed v left declines 0 i leaf)
+    go false host = rw (all_bits i (omega arith)) (sym (host_kept v left declines i host))
 
 -- a test joined with one that cannot hold
 none_joined : (a c : Bool) → a ≡ (a || (c && false))
@@ -117,34 +107,31 @@ equal_back a b = go (ℕ_discrete a b)
     go (no other) = rw (ne_eqb a b other, ne_eqb b a (λ e. other (sym e)))
 
 -- What node i adds to the word. It takes no slot:
-module _ (plan : Plan) (left : List ℕ) (declines takers i : ℕ) (b : Bool) (e : b ≡ takes left (told (view_of plan) declines takers) i) where
-  pub none_added : b ≡ false → WithBits takers (λ h. eligible (view_of plan) left (told (view_of plan) declines takers) (Under h) i) takers
+module _ (plan : Plan) (left : List ℕ) (passed : ℕ → Bool) (takers i : ℕ) where
+  pub none_added : takes left passed i ≡ false → WithBits takers (λ h. eligible (view_of plan) left passed (Under h) i) takers
   unfolding eligible
-  none_added h g l = rw (sym e ∙ h) (none_joined (bit_of takers g) (same (parent_of plan i) (Under g)))
+  none_added e g l = rw e (none_joined (bit_of takers g) (same (parent_of plan i) (Under g)))
 
-  module _ (h : b ≡ true) (n : Node) (read : n ≡ node_at plan i) where
-    -- it takes one of a supply,
-    pub supply_added : (s : ℕ) → n.parent ≡ Supply s →
-        WithBits takers (λ g. eligible (view_of plan) left (told (view_of plan) declines takers) (Under g) i) takers
-    unfolding eligible same
-    supply_added s up g l =
-        let is : parent_of plan i ≡ Supply s = sym (ap (λ m. m.parent) read) ∙ up in
-        rw is (none_joined (bit_of takers g) false)
+  -- it is a supply's,
+  pub supply_added : ((h : ℕ) → parent_of plan i ≡ Under h → ⊥) → WithBits takers (λ h. eligible (view_of plan) left passed (Under h) i) takers
+  unfolding eligible same
+  supply_added none g l = go (parent_of plan i) none
+    where
+      go : (x : Parent) → ((h : ℕ) → x ≡ Under h → ⊥) → bit_of takers g ≡ (bit_of takers g || (same x (Under g) && takes left passed i))
+      go (Supply s) never = none_joined (bit_of takers g) false
+      go (Under h) never = absurd (never h refl)
 
-    -- or of a host
-    pub host_added : (host : ℕ) → n.parent ≡ Under host → (at : ℕ) → at ≡ host → (r : ℕ) → WithBits takers (λ g. eqb g at) r →
-        WithBits takers (λ g. eligible (view_of plan) left (told (view_of plan) declines takers) (Under g) i) r
-    unfolding eligible same
-    host_added host up at is r adds g l =
-        let above : parent_of plan i ≡ Under host = sym (ap (λ m. m.parent) read) ∙ up in
-        adds g l ∙ rw (above, sym e ∙ h, is) (ap (λ c. bit_of takers g || c) (sym (equal_back host g)))
+  -- or it takes one of a host
+  pub host_added : takes left passed i ≡ true → (host : ℕ) → parent_of plan i ≡ Under host → host < 64 →
+      WithBits takers (λ h. eligible (view_of plan) left passed (Under h) i) (bit_or takers ((1 * 2 ^ host) % 2 ^ 64))
+  unfolding eligible same
+  host_added e host up here g l = bit_added takers host here g ∙ rw (up, e) (ap (λ c. bit_of takers g || c) (sym (equal_back host g)))
 
 -- a node's host has a bit in a word
-pub host_place : (plan : Plan) → sound plan ≡ true → (i : ℕ) → i < plan.size → (n : Node) → n ≡ node_at plan i → (host : ℕ) → n.parent ≡ Under host →
-    (at : ℕ) → at ≡ host → at < 64
-host_place plan keeps i l n read host up at is =
-    let so = sound_kept plan keeps in
-    let earlier = host_earlier plan so i l host (sym (ap (λ m. m.parent) read) ∙ up) in
+pub host_place : (plan : Plan) → is_fit plan ≡ true → (i : ℕ) → i < plan.size → (host : ℕ) → parent_of plan i ≡ Under host → host < 64
+host_place plan fit i l host up =
+    let so = sound_kept plan (fits_sound plan fit) in
+    let earlier = host_earlier plan so i l host up in
     omega (arith, so.sixty_four_nodes)
 
 -- a word of zeros has no bit
@@ -170,7 +157,7 @@ module _ (plan : Plan) (left : List ℕ) (declines : ℕ) where
         seen = λ h j l m n may. absurd (omega arith);
       }
 
-  module _ (keeps : sound plan ≡ true) where
+  module _ (fit : is_fit plan ≡ true) where
     -- a word that has seen every node behind node i tells whether i is passed over: a host's children are behind it
     told_right : (takers k i : ℕ) → Seen takers k → k ≤ suc i → i < plan.size → told (view_of plan) declines takers i ≡ passed i
     unfolding told passed_over
@@ -178,14 +165,14 @@ module _ (plan : Plan) (left : List ℕ) (declines : ℕ) where
       where
         none : bit_of takers i ≡ false → (j : ℕ) → j < plan.size → (b : Bool) → eligible (view_of plan) left passed (Under i) j ≡ b → b ≡ false
         none e j m true may =
-            let later = host_earlier plan (sound_kept plan keeps) j m i (eligible_under (view_of plan) left passed (Under i) j may) in
+            let later = host_earlier plan (sound_kept plan (fits_sound plan fit)) j m i (eligible_under (view_of plan) left passed (Under i) j may) in
             sym (so.seen i j there (omega arith) m may) ∙ e
         none e j m false may = refl
 
         at : is_leaf plan i ≡ false → (c : Bool) → bit_of takers i ≡ c → not c ≡ passed i
         at host true e = sym (so.right i there host e)
         at host false e =
-            sym (host_fixed plan (sound_kept plan keeps) left declines i there host ∙
+            sym (host_fixed plan (sound_kept plan (fits_sound plan fit)) left declines i there host ∙
             nobody_is _ (none_choice (view_of plan) left passed (Under i) (λ j m. none e j m (eligible (view_of plan) left passed (Under i) j) refl)))
 
         go : (b : Bool) → is_leaf plan i ≡ b → cond b (bit_of declines i) (not (bit_of takers i)) ≡ passed i
@@ -203,7 +190,7 @@ module _ (plan : Plan) (left : List ℕ) (declines : ℕ) where
     unfolding is_nobody
     some_kept h j l host m may =
         let (k, e) = some_choice (view_of plan) left passed (Under h) j m may in
-        host_fixed plan (sound_kept plan keeps) left declines h l host ∙ ap is_nobody e
+        host_fixed plan (sound_kept plan (fits_sound plan fit)) left declines h l host ∙ ap is_nobody e
 
     -- one node more
     pub seen_more : (takers k i : ℕ) → Seen takers k → k ≡ suc i → i < plan.size → (r : ℕ) →
@@ -218,7 +205,7 @@ module _ (plan : Plan) (left : List ℕ) (declines : ℕ) where
         so = rw at at before
 
         is : (h : ℕ) → h < plan.size → bit_of r h ≡ (bit_of takers h || eligible (view_of plan) left passed (Under h) i)
-        is h m = adds h (omega (arith, (sound_kept plan keeps).sixty_four_nodes)) ∙ ap (λ b. bit_of takers h || b) (told_may takers i so l (Under h))
+        is h m = adds h (omega (arith, (sound_kept plan (fits_sound plan fit)).sixty_four_nodes)) ∙ ap (λ b. bit_of takers h || b) (told_may takers i so l (Under h))
 
         right : (h : ℕ) → h < plan.size → is_leaf plan h ≡ false → (b : Bool) → bit_of takers h ≡ b →
             (b || eligible (view_of plan) left passed (Under h) i) ≡ true → passed h ≡ false
@@ -239,5 +226,5 @@ module _ (plan : Plan) (left : List ℕ) (declines : ℕ) where
         seen h j m n o may (no other) = first (bit_of takers h) _ (so.seen h j m (omega arith) o may)
 
     -- past the first
-    pub seen_all : (takers k : ℕ) → Seen takers k → k ≤ 0 → Tells On (view_of plan) left declines takers
+    pub seen_all : (takers k : ℕ) → Seen takers k → k ≤ 0 → Tells On (view_of plan) left declines (told (view_of plan) declines takers)
     seen_all takers k so l i there = told_right takers k i so (omega arith) there

@@ -1,10 +1,8 @@
 -- Whom a parent gives a slot to: document 01, "Giving out slots". Assumes nothing.
-use Rattle.std.specs.Prelude.{ℕ, zero, suc, ◌≤◌, ◌<◌, Bool, true, not, cond, ◌&&◌, List, ◌⊎◌, ◌≡◌, ltb, get_or}
+use Rattle.std.specs.Prelude.{ℕ, zero, suc, ◌≤◌, ◌<◌, Bool, true, not, cond, ◌&&◌, List, ◌⊎◌, ◌≡◌, Option, Some, None, ltb, get_or}
 use Rattle.plans.specs.Plan.{same}
 use Rattle.plans.specs.declared.Parent.{Parent}
 use Rattle.dispatch.specs.View.{View}
-use Rattle.dispatch.specs.declared.Choice.{Choice}
-use Rattle.dispatch.specs.declared.Choice.TheVariants as code
 
 -- whom a parent gives a slot to: nobody, or just one node
 pub data Pick : Type 0 where
@@ -12,9 +10,9 @@ pub data Pick : Type 0 where
   just : ℕ → Pick
 
 -- what the code's choice says
-abbrev pub picked : Choice → Pick
-picked code.Nobody = nobody
-picked (code.Child i) = just i
+abbrev pub picked : Option ℕ → Pick
+picked None = nobody
+picked (Some i) = just i
 
 -- 01: "with slots left, .. passed over": whether node i takes a slot that its parent gives, where `passed` tells who is passed over (Passed.antt)
 unfoldable pub takes : List ℕ → (ℕ → Bool) → ℕ → Bool

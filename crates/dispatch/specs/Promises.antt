@@ -1,5 +1,5 @@
 -- What is promised of the choice, of counts, of refusals, of steps and of runs. Why each holds is in proofs/. Assumes nothing.
-use Rattle.std.specs.Prelude.{ℕ, suc, ◌+◌, ◌*◌, ◌-◌, ◌%◌, ◌^◌, ◌≤◌, ◌<◌, Bool, true, false, List, ◌++◌, ◌↔◌, ◌≡◌, length, get_or}
+use Rattle.std.specs.Prelude.{ℕ, suc, ◌+◌, ◌*◌, ◌-◌, ◌%◌, ◌^◌, ◌≤◌, ◌<◌, Bool, true, false, List, ◌++◌, ◌↔◌, ◌≡◌, Result, length, get_or}
 use Rattle.plans.specs.Plan.{There}
 use Rattle.plans.specs.Sound.{Sound}
 use Rattle.plans.specs.declared.Parent.{Parent}
@@ -10,10 +10,11 @@ use Rattle.dispatch.specs.View.{View, view_of, is_leaf, served_c, bit_of}
 use Rattle.dispatch.specs.Choice.{nobody, just, eligible, choose, Chosen}
 use Rattle.dispatch.specs.Passed.{passed_over}
 use Rattle.dispatch.specs.Slot.{SlotEnd, refilled, walk, slot}
-use Rattle.dispatch.specs.Run.{done, refused, said, Standing, RunEnd, zero_state, started, outcome, Course, course_to, stepped}
+use Rattle.dispatch.specs.Run.{done, refused, said, fresh_end, run_end, step_end, Standing, RunEnd, zero_state, started, outcome, Course, course_to, stepped}
 use Rattle.dispatch.specs.declared.Setting.{Setting}
 use Rattle.dispatch.specs.declared.Setting.TheVariants.{Off, On}
-use Rattle.dispatch.specs.declared.Outcome.{Outcome}
+use Rattle.dispatch.specs.declared.Refusal.{Refusal}
+use Rattle.dispatch.specs.declared.State.{State}
 
 -- node i may be taken under x
 pub record May (v : View) (left : List ℕ) (passed : ℕ → Bool) (x : Parent) (i : ℕ) : Type 0 where
@@ -114,9 +115,19 @@ StepIsSlot =
     stepped setting plan state supplied declines ≡
     record { outcome = done; state = record { clock = state.clock + 1; left = next.left }; grants = next.grants }
 
--- two outcomes that say the same in document 01's terms are the same, so every equation allows one result
+-- two results that say the same in document 01's terms are the same,
 abbrev pub OneOutcome : Type 0
-OneOutcome = (a b : Outcome) → said a ≡ said b → a ≡ b
+OneOutcome = (a b : Result (Unit {0}) Refusal) → said a ≡ said b → a ≡ b
+
+-- and so are two starts, two runs and two steps that end alike: every equation allows one result and one state
+abbrev pub OneFreshEnd : Type 0
+OneFreshEnd = (a b : Result State Refusal) → fresh_end a ≡ fresh_end b → a ≡ b
+
+abbrev pub OneRunEnd : Type 0
+OneRunEnd = (a b : Result (Unit {0}) Refusal) (s t : State) → run_end a s ≡ run_end b t → (a ≡ b) × (s ≡ t)
+
+abbrev pub OneStepEnd : Type 0
+OneStepEnd = (a b : Result (List ℕ) Refusal) (s t : State) → step_end a s ≡ step_end b t → (a ≡ b) × (s ≡ t)
 
 -- 01: "its left falls by one .. If there is nobody to take, the slot is idle; hosts already passed stay charged": whoever a supply or a host chooses has one
 -- slot less after the walk, leaf or host, and whatever the walk finds below a host.

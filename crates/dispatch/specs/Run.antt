@@ -1,5 +1,30 @@
 -- Fresh start, run and step, with their refusals: document 01, "Giving out slots", and 02, request 12: "Each step, run .. is given the setting". Assumes nothing.
-use Rattle.std.specs.Prelude.{ℕ, zero, suc, ◌+◌, ◌*◌, ◌^◌, Bool, cond, ◌&&◌, List, [], ◌∷◌, ◌++◌, leb, eqb, length, get_or, set, take, drop, replicate}
+use Rattle.std.specs.Prelude.{
+  ℕ,
+  zero,
+  suc,
+  ◌+◌,
+  ◌*◌,
+  ◌^◌,
+  Bool,
+  cond,
+  ◌&&◌,
+  List,
+  [],
+  ◌∷◌,
+  ◌++◌,
+  Result,
+  Ok,
+  Err,
+  leb,
+  eqb,
+  length,
+  get_or,
+  set,
+  take,
+  drop,
+  replicate,
+}
 use Rattle.plans.specs.Sound.{all}
 use Rattle.plans.specs.declared.Plan.{Plan}
 use Rattle.rules.specs.Check.{is_fit}
@@ -8,21 +33,24 @@ use Rattle.dispatch.specs.Slot.{slot, unsupplied}
 use Rattle.dispatch.specs.declared.Setting.{Setting}
 use Rattle.dispatch.specs.declared.Setting.TheVariants.{Off}
 use Rattle.dispatch.specs.declared.State.{State}
-use Rattle.dispatch.specs.declared.Outcome.{Outcome}
-use Rattle.dispatch.specs.declared.Outcome.TheVariants.{Done, Beyond, Unfit, Misfit}
-use Rattle.dispatch.specs.declared.Ran.{Ran}
-use Rattle.dispatch.specs.declared.Stepped.{Stepped}
+use Rattle.dispatch.specs.declared.Refusal.{Refusal}
+use Rattle.dispatch.specs.declared.Refusal.TheVariants.{Beyond, Unfit, Misfit}
 
--- What an outcome says in document 01's own terms: it was done, or the number of a refusal. None of these has a place.
+-- What a call says in document 01's own terms: it was done, or the number of a refusal. None of these has a place.
 pub data Said : Type 0 where
   done : Said
   refused : ℕ → Said
 
-abbrev pub said : Outcome → Said
-said Done = done
-said Beyond = refused 15
-said Unfit = refused 16
-said Misfit = refused 17
+-- document 01's number for each of the code's refusals
+abbrev pub number : Refusal → ℕ
+number Beyond = 15
+number Unfit = 16
+number Misfit = 17
+
+-- what the code's result says, whatever it hands back where the call was done
+abbrev pub said : {A : Type 0} → Result A Refusal → Said
+said (Ok a) = done
+said (Err r) = refused (number r)
 
 -- 01: "The state is the clock n (0 to 2^40) and, per node, the slots left in its current served period"
 pub record Standing : Type 0 where
@@ -38,8 +66,14 @@ pub record RunEnd : Type 0 where
   pub outcome : Said
   pub state : Standing
 
-abbrev pub run_end : Ran → RunEnd
-run_end r = record { outcome = said r.outcome; state = standing r.state }
+-- The code's refused fresh start hands back no state: the zeros that document 01 names stand for it.
+abbrev pub fresh_end : Result State Refusal → RunEnd
+fresh_end (Ok state) = record { outcome = done; state = standing state }
+fresh_end (Err r) = record { outcome = refused (number r); state = record { clock = 0; left = replicate 64 0 } }
+
+-- a run changes its state in place: here it is as the run leaves it
+abbrev pub run_end : {A : Type 0} → Result A Refusal → State → RunEnd
+run_end r state = record { outcome = said r; state = standing state }
 
 -- how a step ends: the same, and eight answers
 pub record StepEnd : Type 0 where
@@ -47,8 +81,10 @@ pub record StepEnd : Type 0 where
   pub state : Standing
   pub grants : List ℕ
 
-abbrev pub step_end : Stepped → StepEnd
-step_end r = record { outcome = said r.outcome; state = standing r.state; grants = r.grants }
+-- The code's refused step has no answers: the eight of 255 that document 01 names stand for them.
+abbrev pub step_end : Result (List ℕ) Refusal → State → StepEnd
+step_end (Ok grants) state = record { outcome = done; state = standing state; grants = grants }
+step_end (Err r) state = record { outcome = refused (number r); state = standing state; grants = replicate 8 unsupplied }
 
 -- 01: "Fresh: n = 0 and left = served C .. Entries past the last node are 0 in a fresh state"
 unfoldable pub fresh_to : View → ℕ → List ℕ

@@ -7,8 +7,6 @@ use Rattle.dispatch.specs.View.{View, bit_of}
 use Rattle.dispatch.specs.Choice.{Pick, nobody, just, choose}
 use Rattle.dispatch.specs.Passed.{passed_over}
 use Rattle.dispatch.specs.declared.Setting.{Setting}
-use Rattle.dispatch.specs.declared.Walked.{Walked}
-use Rattle.dispatch.specs.declared.Served.{Served}
 
 -- 01: "At each slot whose number is a multiple of a node's served T": whether node i is due for its refill at slot n
 unfoldable pub due : View → ℕ → ℕ → Bool
@@ -41,9 +39,9 @@ pub record WalkEnd : Type 0 where
   pub grant : ℕ
   pub left : List ℕ
 
--- what the code's walk hands back
-abbrev pub walk_end : Walked → WalkEnd
-walk_end w = record { grant = w.grant; left = w.left }
+-- the code's walk hands back its grant, and changes the counts in place
+abbrev pub walk_end : ℕ → List ℕ → WalkEnd
+walk_end grant left = record { grant = grant; left = left }
 
 -- 01: "At a leaf the slot is its grant. At a host the same choice is made among its children .. If there is nobody to take, the slot is idle; hosts
 -- already passed stay charged": what follows a choice, where `onward` is the walk below a host
@@ -62,9 +60,9 @@ pub record SlotEnd : Type 0 where
   pub grants : List ℕ
   pub left : List ℕ
 
--- what the code has of a slot
-abbrev pub slot_end : Served → SlotEnd
-slot_end so = record { grants = so.grants; left = so.left }
+-- the code's slot hands back its answers, and changes the counts in place
+abbrev pub slot_end : List ℕ → List ℕ → SlotEnd
+slot_end grants left = record { grants = grants; left = left }
 
 -- 01: "For a supplied core": the answers and counts so far, with core s served
 unfoldable pub granting : SlotEnd → ℕ → WalkEnd → SlotEnd

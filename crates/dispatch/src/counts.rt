@@ -1,84 +1,50 @@
-// The slots that nodes have left: fresh, refilled, charged, and whether they are within their served C.
-ghost use Rattle.std.specs.Prelude.{◌≡◌, true, ◌<◌, ◌≤◌, get_or};
-ghost use Rattle.plans.specs.Sound.{all, sound};
-ghost use Rattle.dispatch.specs.View.{view_of};
-ghost use Rattle.dispatch.specs.Slot.{due, refilled, refill_one, charge};
-ghost use Rattle.dispatch.specs.Run.{fresh_left, left_within};
+// The slots that nodes have left: fresh, refilled, and whether they are within their served C.
+ghost use Rattle.std.specs.Prelude.{◌≡◌, ◌<◌, ◌≤◌, ◌↔◌, ℕ, IsTrue, get_or};
+ghost use Rattle.dispatch.specs.View.{served_c, view_of};
+ghost use Rattle.dispatch.specs.Slot.{due, refilled};
+ghost use Rattle.dispatch.specs.Run.{fresh_left};
 
-use plans::Plan;
+use crate::fits::FitPlan;
 
-// Each node's served C.
-pub fn fresh_left(plan: Plan) -> [u16; 64]
-    requires { plan.size ≤ 64 }
-    ensures { result ≡ fresh_left (view_of plan) }
-{
-    let size = plan.size;
-    let mut left = [0u16; 64];
-    let mut i: usize = 0;
-    while i < size {
-        left[i] = plans::node_at(plan, i).served.c;
-        i += 1;
-    }
-    left
-}
-
-// Each node whose served period begins at slot n gets its served C.
-pub fn refill(plan: Plan, n: u64, left: [u16; 64]) -> [u16; 64]
-    requires { sound plan ≡ true }
-    ensures { result ≡ refilled (view_of plan) n left }
-{
-    let size = plan.size;
-    let mut full = left;
-    let mut i: usize = 0;
-    while i < size {
-        let next = refill_one(plan, n, full, i);
-        full = next;
-        i += 1;
-    }
-    full
-}
-
-fn refill_one(plan: Plan, n: u64, left: [u16; 64], i: usize) -> [u16; 64]
-    requires { (sound plan ≡ true) × (i < plan.size) }
-    ensures { result ≡ refill_one (view_of plan) n left i }
-{
-    let mut full = left;
-    if is_due(plan, n, i) {
-        full[i] = plans::node_at(plan, i).served.c;
-    }
-    full
-}
-
-// Whether node i's served period begins at slot n.
-fn is_due(plan: Plan, n: u64, i: usize) -> bool
-    requires { (sound plan ≡ true) × (i < plan.size) }
-    ensures { result ≡ due (view_of plan) n i }
-{
-    n % plans::node_at(plan, i).served.t as u64 == 0
-}
-
-// Node i, which has slots left, has one less.
-pub fn charge_one(left: [u16; 64], i: usize) -> [u16; 64]
-    requires { (i < 64) × (0 < get_or left i 0) }
-    ensures { result ≡ charge left i }
-{
-    let mut less = left;
-    less[i] = left[i] - 1;
-    less
-}
-
-// Whether no node has more left than its served C.
-pub fn are_within(plan: Plan, left: [u16; 64]) -> bool
-    requires { plan.size ≤ 64 }
-    ensures { result ≡ all (left_within plan left) plan.size }
-{
-    let size = plan.size;
-    let mut i: usize = 0;
-    while i < size {
-        if plans::node_at(plan, i).served.c < left[i] {
-            return false;
+impl FitPlan {
+    // Each node's served C.
+    #[tactic(auto, using(crate::proofs::Counting::fresh_steps), unfolding(crate::specs::View::served_c))]
+    pub fn fresh_left(&self) -> [u16; 64]
+        ensures { result ≡ fresh_left (view_of self.now.plan) }
+    {
+        let mut full = [0; 64];
+        for i in 0..self.plan.size {
+            full[i] = plans::node_at(self.plan, i).served.c;
         }
-        i += 1;
+        full
     }
-    true
+
+    // Each node whose served period begins at slot n gets its served C.
+    #[tactic(auto, using(crate::proofs::Counting::refill_steps), unfolding(crate::specs::View::served_c))]
+    pub fn refill(&self, n: u64, left: &mut [u16; 64])
+        ensures { left.new ≡ refilled (view_of self.now.plan) n left.old }
+    {
+        for i in 0..self.plan.size {
+            if self.is_due(n, i) {
+                left[i] = plans::node_at(self.plan, i).served.c;
+            }
+        }
+    }
+
+    // Whether node i's served period begins at slot n.
+    #[tactic(auto, using(crate::proofs::Fitting::fit_period), unfolding(crate::specs::Slot::due, crate::specs::View::served_t))]
+    fn is_due(&self, n: u64, i: usize) -> bool
+        requires { i < self.now.plan.size }
+        ensures { result ≡ due (view_of self.now.plan) n i }
+    {
+        n % u64::from(plans::node_at(self.plan, i).served.t) == 0
+    }
+
+    // Whether no node has more left than its served C.
+    #[tactic(auto, unfolding(crate::specs::View::served_c))]
+    pub fn are_within(&self, left: &[u16; 64]) -> bool
+        ensures { IsTrue result ↔ ((i : ℕ) → i < self.now.plan.size → get_or left.now i 0 ≤ served_c self.now.plan i) }
+    {
+        (0..self.plan.size).all(|i| left[i] <= plans::node_at(self.plan, i).served.c)
+    }
 }

@@ -1,110 +1,84 @@
 // The refusals of a run, and its slots one after the other.
-ghost use Rattle.std.specs.Prelude.{◌≡◌, true, ◌++◌, ◌*◌, ◌+◌, ◌^◌, ◌<◌, ◌≤◌, length, drop};
-ghost use Rattle.std.proofs.Math.Seq.{paste};
-ghost use Rattle.plans.specs.Sound.{sound};
+ghost use Rattle.std.specs.Prelude.{◌≡◌, ◌++◌, ◌*◌, ◌+◌, ◌^◌, ◌<◌, ◌≤◌, IfOk, length, drop};
 ghost use Rattle.dispatch.specs.Run.{said, standing, course, outcome, ready, roomy, in_time};
 
-use crate::{Outcome, Setting, State};
+use crate::fits::FitPlan;
+use crate::{Refusal, Setting, State};
 use plans::Plan;
 
 // 2^40.
-const LIMIT: u64 = 1099511627776;
+const LIMIT: u64 = 1 << 40;
 
-// 16, then 17, then 15.
-pub fn outcome_of(plan: Plan, state: State, k: usize, declines: usize, room: usize) -> Outcome
-    ensures { said result ≡ outcome plan (standing state) k declines room }
+// The plan as one that fits, or 16, then 17, then 15.
+#[tactic(auto, unfolding(crate::specs::Run::outcome, crate::specs::Run::ready))]
+pub fn admit(
+    plan: Plan,
+    state: &State,
+    k: usize,
+    declines: usize,
+    room: usize,
+) -> Result<FitPlan, Refusal>
+    ensures outcome { said result ≡ outcome plan (standing state.now) k declines room }
+    ensures plan { IfOk result (λ p. p.plan ≡ plan) }
 {
-    if !is_ready(plan, state) {
-        return Outcome::Unfit;
+    let fit = FitPlan::new(plan)?;
+    if !is_ready(&fit, state) {
+        return Err(Refusal::Unfit);
     }
-    let fits = is_roomy(plan, k, declines, room);
-    let ends = is_in_time(state.clock, k);
-    if !fits {
-        return Outcome::Misfit;
+    if !is_roomy(&fit, k, declines, room) {
+        return Err(Refusal::Misfit);
     }
-    if !ends {
-        return Outcome::Beyond;
+    if !is_in_time(state.clock, k) {
+        return Err(Refusal::Beyond);
     }
-    Outcome::Done
+    Ok(fit)
 }
 
-// Whether plan value and state are fit.
-fn is_ready(plan: Plan, state: State) -> bool
-    ensures { result ≡ ready plan (standing state) }
+// Whether the state is fit too.
+#[tactic(auto, unfolding(crate::specs::Run::ready))]
+fn is_ready(fit: &FitPlan, state: &State) -> bool
+    ensures { result ≡ ready fit.now.plan (standing state.now) }
 {
-    if !rules::is_fit(plan) {
-        return false;
-    }
-    if LIMIT < state.clock {
-        return false;
-    }
-    let left = state.left;
-    crate::counts::are_within(plan, left)
+    state.clock <= LIMIT && fit.are_within(&state.left)
 }
 
 // Whether the inputs are equally long, and there is room for k answers of each supply.
-fn is_roomy(plan: Plan, k: usize, declines: usize, room: usize) -> bool
-    requires { 0 < plan.cores }
-    ensures { result ≡ roomy plan k declines room }
+#[tactic(auto, using(crate::proofs::Refusals::room_shared, crate::proofs::Refusals::unequal_refused))]
+fn is_roomy(fit: &FitPlan, k: usize, declines: usize, room: usize) -> bool
+    ensures { result ≡ roomy fit.now.plan k declines room }
 {
-    basics::both(k == declines, k <= room / plan.cores)
+    k == declines && k <= room / fit.plan.cores
 }
 
 // Whether k slots from this clock on end in time.
+#[tactic(auto, unfolding(crate::specs::Run::in_time))]
 fn is_in_time(clock: u64, k: usize) -> bool
-    requires { clock ≤ 2 ^ 40 }
     ensures { result ≡ in_time clock k }
 {
-    k as u64 <= LIMIT - clock
+    clock.saturating_add(k as u64) <= LIMIT
 }
 
-// The slots of a run whose inputs fit: the counts after them, and their answers at the front of `out`.
+// The slots of a run whose inputs fit: the state after them, and their answers at the front of `out`.
 pub fn give(
     setting: Setting,
-    plan: Plan,
-    state: State,
+    plan: FitPlan,
+    state: &mut State,
     supplies: &[u8],
     declines: &[u64],
     out: &mut [u8],
-) -> [u16; 64]
-    requires { (sound plan ≡ true) ×
-        ((length supplies.now ≡ length declines.now) ×
-        ((length supplies.now * plan.cores ≤ length out.old) × (state.clock + length supplies.now ≤ 2 ^ 40))) }
-    ensures result { result ≡ (course setting plan (standing state) supplies.now declines.now).left }
+)
+    requires equal { length supplies.now ≡ length declines.now }
+    requires room { length supplies.now * plan.plan.cores ≤ length out.old }
+    requires time { state.old.clock + length supplies.now ≤ 2 ^ 40 }
+    ensures left { state.new.left ≡ (course setting plan.plan (standing state.old) supplies.now declines.now).left }
+    ensures clock { state.new.clock ≡ state.old.clock + length supplies.now }
     ensures buffer { out.new ≡
-        (course setting plan (standing state) supplies.now declines.now).answers ++
-        drop (length supplies.now * plan.cores) out.old }
+        (course setting plan.plan (standing state.old) supplies.now declines.now).answers ++
+        drop (length supplies.now * plan.plan.cores) out.old }
 {
-    let k = supplies.len();
-    let clock = state.clock;
-    let cores = plan.cores;
-    let mut left = state.left;
-    let mut i: usize = 0;
-    while i < k {
-        let served = crate::walks::serve(
-            setting,
-            plan,
-            clock + i as u64,
-            supplies[i],
-            declines[i],
-            left,
-        );
-        let grants = served.grants;
-        put(grants, cores, i * cores, out);
-        left = served.left;
-        i += 1;
-    }
-    left
-}
-
-// The first n grants, at `at` of `out`.
-fn put(grants: [u8; 8], n: usize, at: usize, out: &mut [u8])
-    requires { (n ≤ 8) × (at + n ≤ length out.old) }
-    ensures { out.new ≡ paste out.old at grants n }
-{
-    let mut i: usize = 0;
-    while i < n {
-        out[at + i] = grants[i];
-        i += 1;
+    let cores = plan.plan.cores;
+    for (i, supplied) in supplies.iter().enumerate() {
+        let grants = crate::walks::serve(setting, plan, state, *supplied, declines[i]);
+        out[i * cores..(i + 1) * cores].copy_from_slice(&grants[..cores]);
     }
 }

@@ -1,78 +1,63 @@
 // One slot: refill, then for each supplied core the walk from its supply through hosts to a leaf.
-ghost use Rattle.std.specs.Prelude.{◌≡◌, true, ◌<◌};
-ghost use Rattle.plans.specs.Sound.{sound};
+ghost use Rattle.std.specs.Prelude.{◌≡◌, ◌+◌, ◌^◌, ◌<◌};
 ghost use Rattle.dispatch.specs.View.{view_of};
-ghost use Rattle.dispatch.specs.Words.{told};
-ghost use Rattle.dispatch.specs.Slot.{walk_end, slot_end, walk, serve_core, slot};
+ghost use Rattle.dispatch.specs.Words.{passed_by};
+ghost use Rattle.dispatch.specs.Slot.{walk_end, slot_end, walk, slot};
 
-use crate::{Choice, Served, Setting, Walked};
-use plans::{Parent, Plan};
+use crate::fits::FitPlan;
+use crate::picks::{Round, is_set};
+use crate::{Setting, State};
+use plans::Parent;
 
-// Slot n: the answers of its cores in supply order, and the counts after it.
+const IDLE: u8 = 254;
+
+const UNSUPPLIED: u8 = 255;
+
+// No node of a plan stands deeper.
+const LEVELS: usize = 8;
+
+// The slot at the clock: the answers of its cores in supply order, and the state after it.
+#[tactic(auto, using(crate::proofs::Walking::serve_steps), unfolding(crate::specs::Slot::granting))]
 pub fn serve(
     setting: Setting,
-    plan: Plan,
-    n: u64,
+    plan: FitPlan,
+    state: &mut State,
     supplied: u8,
     declines: u64,
-    left: [u16; 64],
-) -> Served
-    requires { sound plan ≡ true }
-    ensures { slot_end result ≡ slot setting (view_of plan) plan.cores n supplied declines left }
+) -> [u8; 8]
+    requires { state.old.clock < 2 ^ 40 }
+    ensures slot { slot_end result state.new.left ≡ slot setting (view_of plan.plan) plan.plan.cores state.old.clock supplied declines state.old.left }
+    ensures clock { state.new.clock ≡ state.old.clock + 1 }
 {
-    let cores = plan.cores;
-    let full = crate::counts::refill(plan, n, left);
-    let takers = crate::hosts::takers(setting, plan, full, declines);
-    let none = [255; 8];
-    let mut so = Served {
-        grants: none,
-        left: full,
-    };
-    let mut s: usize = 0;
-    while s < cores {
-        so = serve_core(plan, supplied, declines, takers, so, s);
-        s += 1;
+    plan.refill(state.clock, &mut state.left);
+    let round = Round::new(setting, plan, &state.left, declines);
+    let mut grants = [UNSUPPLIED; 8];
+    for s in 0..plan.plan.cores {
+        if is_set(u64::from(supplied), s) {
+            grants[s] = round.walk(LEVELS, Parent::Supply(s as u8), &mut state.left);
+        }
     }
-    so
+    state.clock += 1;
+    grants
 }
 
-// Core s, where it is supplied: one grant is replaced.
-fn serve_core(plan: Plan, supplied: u8, declines: u64, takers: u64, so: Served, s: usize) -> Served
-    requires { (sound plan ≡ true) × (s < 8) }
-    ensures { slot_end result ≡ serve_core (view_of plan) supplied (told (view_of plan) declines takers) (slot_end so) s }
-{
-    if !crate::picks::is_set(supplied as u64, s) {
-        return so;
-    }
-    let counts = so.left;
-    let w = descend(plan, declines, takers, 8, Parent::Supply(s as u8), counts);
-    let left = w.left;
-    let mut grants = so.grants;
-    grants[s] = w.grant;
-    Served { grants, left }
-}
-
-// The walk down from parent x: the levels to go fall at each call.
-fn descend(plan: Plan, declines: u64, takers: u64, levels: u8, x: Parent, left: [u16; 64]) -> Walked
-    requires { sound plan ≡ true }
-    ensures { walk_end result ≡ walk (view_of plan) (told (view_of plan) declines takers) levels x left }
-{
-    if levels == 0 {
-        return Walked { grant: 254, left };
-    }
-    match crate::picks::choice(plan, left, declines, takers, x) {
-        Choice::Nobody => Walked { grant: 254, left },
-        Choice::Child(i) => {
-            let charged = crate::counts::charge_one(left, i);
-            if plans::is_host(plan, i) {
-                let below = Parent::Node(i as u8);
-                descend(plan, declines, takers, levels - 1, below, charged)
-            } else {
-                Walked {
-                    grant: i as u8,
-                    left: charged,
-                }
-            }
+impl Round {
+    // The walk down from parent x, with so many levels to go: its grant, with everyone taken on the way charged.
+    #[tactic(auto, using(crate::proofs::Walking::walk_steps), unfolding(crate::specs::Slot::follow, crate::specs::Slot::charge, crate::specs::View::is_leaf))]
+    fn walk(&self, levels: usize, x: Parent, left: &mut [u16; 64]) -> u8
+        ensures { walk_end result left.new ≡ walk (view_of self.now.plan.plan) (passed_by self.now) levels x left.old }
+    {
+        if levels == 0 {
+            return IDLE;
+        }
+        let Some(i) = self.choice(left, x) else {
+            return IDLE;
+        };
+        left[i] -= 1;
+        if plans::is_host(self.plan.plan, i) {
+            self.walk(levels - 1, Parent::Node(i as u8), left)
+        } else {
+            i as u8
         }
     }
 }

@@ -12,7 +12,7 @@ use Rattle.plans.specs.Plan.{Tidy}
 use Rattle.fields.specs.Fields.{byte_at}
 use Rattle.decode.specs.Positions.{size_of, name_start}
 use Rattle.decode.proofs.Entries.{plan_tidy}
-use Rattle.reader.specs.Read.{read_answer, read_plan, name_of}
+use Rattle.reader.specs.Read.{read_answer, read_plan, has_name, name_of}
 use Rattle.reader.proofs.Kept.{accepted_fit}
 use Rattle.reader.proofs.Spelled.{accepted_plan}
 use Rattle.numbers.proofs.Kept.{plan_laid_out, sound_held}
@@ -38,7 +38,7 @@ none (a ∷ x) e = absurd (omega arith)
 
 -- a name stands where it is told
 pub name_there : NameThere
-unfolding span name_of
+unfolding span name_of has_name
 name_there bytes i = told (eqb (length (name_of bytes i)) 0) refl
   where
     part : (c : Bool) (n : ℕ) (x : List ℕ) → take (length (cond c (take n x) [])) x ≡ cond c (take n x) []

@@ -6,11 +6,10 @@ use mathlib.Core.Path.{◌≡◌, refl, ap, ◌∙◌}
 use lib.Dec.{leb, eqb}
 use lib.ListN.{length, replicate}
 use borrow.Author.Tests.{eq-eqb}
+use Rattle.answers.specs.Answers.{Answer, Accepted, Refused}
 use Rattle.ticks.specs.Times as times
 use Rattle.types.specs.Decision.{decided, writing}
 use Rattle.types.specs.Decision as pairs
-use Rattle.answers.specs.declared.Answer.{Answer}
-use Rattle.answers.specs.declared.Answer.TheVariants.{Accepted, Refused}
 use Rattle.plans.specs.declared.Plan.{Plan}
 use Rattle.rules.specs.Check.{is_fit}
 use Rattle.reader.specs.Read.{read_plan}

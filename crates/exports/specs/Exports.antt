@@ -1,6 +1,6 @@
 -- What each function of include/mettulos.h answers and what the slices that it is lent hold afterwards, as a pair or a triple in the order of its
 -- arguments. Built from what the crates below say of their calls. Assumes nothing.
-use Rattle.std.specs.Prelude.{ℕ, ◌+◌, ◌*◌, min, Bool, cond, ◌&&◌, List, [], ◌∷◌, leb, eqb, length, replicate}
+use Rattle.std.specs.Prelude.{ℕ, ◌+◌, ◌*◌, min, Bool, cond, ◌&&◌, List, [], ◌∷◌, Option, Some, None, Result, Ok, Err, leb, eqb, length, replicate}
 use Rattle.ticks.specs.Times.{begins, latest, timed, per_minute}
 use Rattle.ticks.specs.Times as times
 use Rattle.ticks.specs.declared.Tick.{Tick}
@@ -9,9 +9,7 @@ use Rattle.meaning.specs.declared.Kind.{Kind}
 use Rattle.meaning.specs.declared.Kind.TheVariants.{Aligned, Sliding}
 use Rattle.types.specs.Decision.{decided}
 use Rattle.types.specs.Decision as pairs
-use Rattle.answers.specs.Answers.{Place, none, at}
-use Rattle.answers.specs.declared.Answer.{Answer}
-use Rattle.answers.specs.declared.Answer.TheVariants.{Accepted, Refused}
+use Rattle.answers.specs.Answers.{Place, none, at, Answer, Accepted, Refused}
 use Rattle.decode.specs.Positions.{name_start}
 use Rattle.reader.specs.Read.{read_plan, name_of}
 use Rattle.dispatch.specs.Slot.{unsupplied}
@@ -19,6 +17,7 @@ use Rattle.dispatch.specs.Run.{Standing, RunEnd, StepEnd, zero_state, started, r
 use Rattle.dispatch.specs.Run as runs
 use Rattle.dispatch.specs.declared.Setting.{Setting}
 use Rattle.dispatch.specs.declared.Setting.TheVariants.{Off, On}
+use Rattle.exports.specs.declared.refusals.Refusal.{Refusal}
 use Rattle.numbers.specs.Numbers.{plan_numbers, plan_of_numbers, state_numbers, state_of_numbers, is_state}
 
 -- A refusal: its number in the low half, its place in the high half. A place that the half does not hold, or none, is `placeless`; no read has one that
@@ -28,6 +27,19 @@ placeless = 0xffff_ffff
 
 unfoldable pub refusal : ℕ → ℕ → ℕ
 refusal number place = number + 0x1_0000_0000 * min place placeless
+
+abbrev pub place_of : Place → ℕ
+place_of none = placeless
+place_of (at k) = k
+
+-- the place that the code's refusal has, and what C is told of a result: 0, or its refusal
+abbrev pub place_in : Option ℕ → Place
+place_in None = none
+place_in (Some k) = at k
+
+abbrev pub told : {A : Type 0} → Result A Refusal → ℕ
+told (Ok a) = 0
+told (Err r) = refusal r.number (place_of (place_in r.place))
 
 -- 01, refusal 17: "buffer lengths don't fit"
 abbrev pub misfit : ℕ
@@ -54,10 +66,6 @@ unfoldable pub slotting : Tick → ℕ → List ℕ → ℕ × List ℕ
 slotting tick t = telling (timed tick t (latest tick t))
 
 -- Pairs of types. A pair that holds: 1, the least ones, 0, 0; one that fails: 0, the window's start, the ones there, the stretch's length.
-abbrev pub place_of : Place → ℕ
-place_of none = placeless
-place_of (at k) = k
-
 abbrev pub deciding_by : pairs.Said → List ℕ → ℕ × List ℕ
 deciding_by (pairs.holds m) lent = (0, 1 ∷ m ∷ 0 ∷ 0 ∷ [])
 deciding_by (pairs.fails s o n) lent = (0, 0 ∷ s ∷ o ∷ n ∷ [])
@@ -132,6 +140,11 @@ ran_by setting plan state supplies declines room =
 unfoldable pub out_by : ℕ → List ℕ → List ℕ → List ℕ → List ℕ → List ℕ → List ℕ
 out_by setting plan state supplies declines out =
     by_numbers setting state (runs.out_after (setting_numbered setting) (plan_of_numbers plan) (state_of_numbers state) supplies declines out) (λ r. out)
+
+-- the eight answers of the code's step, 255 where it is refused
+abbrev pub answers_of : Result (List ℕ) Refusal → List ℕ
+answers_of (Ok grants) = grants
+answers_of (Err r) = replicate 8 unsupplied
 
 -- 01: a refusal "hands back the given state": it is written only where the call was done
 abbrev pub keeping : runs.Said → Standing → List ℕ → ℕ × List ℕ

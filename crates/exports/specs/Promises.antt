@@ -1,10 +1,10 @@
 -- What is promised of what one call hands to the next, and of refusals. Why each holds is in proofs/: Kept, Places, Writes, Unset and Beyond.
 -- Assumes nothing.
+use Rattle.answers.specs.Answers.{Accepted, Refused}
 use Rattle.std.specs.Prelude.{ℕ, ◌/◌, ◌%◌, ◌≤◌, ◌<◌, min, true, false, ◌&&◌, List, ◌⊎◌, ◌≡◌, length, get_or, take, drop, replicate}
 use Rattle.ticks.specs.Times.{Said}
 use Rattle.meaning.specs.Soft.{within_range}
 use Rattle.meaning.specs.declared.SlotType.{SlotType}
-use Rattle.answers.specs.declared.Answer.TheVariants.{Accepted, Refused}
 use Rattle.plans.specs.Plan.{There, misses_of, is_host, no_misses}
 use Rattle.plans.specs.declared.Plan.{Plan}
 use Rattle.rules.specs.Fit.{Rule20}

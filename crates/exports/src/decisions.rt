@@ -1,61 +1,63 @@
-// A pair's decision, laid down in four numbers.
-ghost use Rattle.std.specs.Prelude.{◌≡◌, length, [], ◌∷◌};
-ghost use Rattle.answers.specs.Answers.{placed};
+// The decision on a pair of types, laid down in four numbers.
+ghost use Rattle.std.specs.Prelude.{◌≡◌, Ok, Err, Some, cond, leb};
+ghost use Rattle.std.specs.Result.{result_unwrap_or};
 ghost use Rattle.types.specs.Decision as pairs;
-ghost use Rattle.exports.specs.Exports.{kind_numbered, place_of, refusal, deciding_by};
+ghost use Rattle.exports.specs.Exports.{told, kind_numbered, deciding_by, deciding};
 
-use meaning::Kind;
+use crate::refusals::{BAD_KIND, Refusal, lengths};
+use meaning::{Kind, SlotType};
 use types::Decision;
 
-// Kinds 0 and 1; another is refused before it comes here.
-pub fn kind_of(b: u8) -> Kind
-    ensures { result ≡ kind_numbered b }
+// The kinds are tested before the types.
+#[tactic(auto, unfolding(crate::specs::Exports::deciding))]
+pub fn decide(
+    gives: u8,
+    giver: SlotType,
+    wants: u8,
+    wanted: SlotType,
+    out: &mut [u8],
+    answer: &mut [u32],
+) -> Result<(), Refusal>
+    ensures { (told result, out.new, answer.new) ≡
+        deciding gives giver wants wanted out.old answer.old }
 {
-    match b {
-        0 => Kind::Aligned,
-        _ => Kind::Sliding,
-    }
+    lengths(answer.len() == 4)?;
+    let gives = kind_of(gives, 0)?;
+    let wants = kind_of(wants, 1)?;
+    answer.copy_from_slice(&numbers_of(types::decide(gives, giver, wants, wanted, out))?);
+    Ok(())
 }
 
-// What a decision answers. Its four numbers are laid down where it is not refused.
-pub fn tell(d: Decision, answer: &mut [u32]) -> u64
-    requires { length answer.old ≡ 4 }
-    ensures { (result, answer.new) ≡ deciding_by (pairs.said_of d) answer.old }
+// 1, the least ones, 0, 0 of a pair that holds; 0, the window's start, the ones there, the stretch's length of one that fails.
+fn numbers_of(decision: Decision) -> Result<[u32; 4], Refusal>
+    ensures { (lent : _) → (told result, result_unwrap_or result lent) ≡ deciding_by (pairs.said_of decision) lent }
 {
-    match d {
-        Decision::Holds(least) => {
-            put(1, least as u32, 0, 0, answer);
-            0
-        }
+    match decision {
+        Decision::Holds(least) => Ok([1, u32::from(least), 0, 0]),
         Decision::Fails {
             start,
             ones,
             length,
-        } => {
-            put(0, start, ones as u32, length, answer);
-            0
-        }
-        Decision::Refused { number, place } => refused(number, place),
+        } => Ok([0, start, u32::from(ones), length]),
+        Decision::Refused { number, place } => Err(Refusal {
+            number,
+            place: place.map(usize::from),
+        }),
     }
 }
 
-fn put(a: u32, b: u32, c: u32, d: u32, answer: &mut [u32])
-    requires { length answer.old ≡ 4 }
-    ensures { answer.new ≡ a ∷ b ∷ c ∷ d ∷ [] }
+// Kind 0 or 1, of the giver at place 0 or of the wanted type at place 1.
+#[tactic(auto, unfolding(crate::specs::Exports::kind_numbered))]
+fn kind_of(b: u8, place: usize) -> Result<Kind, Refusal>
+    ensures { result ≡
+        cond (leb b 1) (Ok (kind_numbered b)) (Err (record { number = BAD_KIND; place = Some place })) }
 {
-    answer[0] = a;
-    answer[1] = b;
-    answer[2] = c;
-    answer[3] = d;
-}
-
-// A refusal whose place is 255 where it has none.
-fn refused(number: u8, place: u8) -> u64
-    ensures { result ≡ refusal number (place_of (placed 255 place)) }
-{
-    if place == 255 {
-        crate::refusals::refusal(number, crate::refusals::PLACELESS)
-    } else {
-        crate::refusals::refusal(number, place as usize)
+    match b {
+        0 => Ok(Kind::Aligned),
+        1 => Ok(Kind::Sliding),
+        _ => Err(Refusal {
+            number: BAD_KIND,
+            place: Some(place),
+        }),
     }
 }

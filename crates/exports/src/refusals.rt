@@ -1,62 +1,89 @@
-// Refusals as one number, and slot times, which are a number or a refusal.
-ghost use Rattle.std.specs.Prelude.{◌≡◌};
+// What is refused, as C is told it: a number and a place in one, or 0 where nothing is.
+ghost use Rattle.std.specs.Prelude.{◌≡◌, None, Ok, Err, cond};
 ghost use Rattle.ticks.specs.Times as times;
-ghost use Rattle.dispatch.specs.Run.{said};
-ghost use Rattle.exports.specs.Exports.{refusal, answer_of, outcome_of, telling};
+ghost use Rattle.answers.specs.Answers.{number_of, place_in};
+ghost use Rattle.dispatch.specs.Run as runs;
+ghost use Rattle.exports.specs.Exports.{told};
 
-use answers::Answer;
-use dispatch::Outcome;
-
-// The place of a refusal that has none.
-pub const PLACELESS: usize = 4294967295;
-
-// The number in the low half, the place in the high half.
-pub fn refusal(number: u8, place: usize) -> u64
-    ensures { result ≡ refusal number place }
-{
-    let low = number as u64;
-    if place < PLACELESS {
-        low + 4294967296 * (place as u64)
-    } else {
-        low + 18446744069414584320
-    }
+// The number of a refusal, which include/mettulos.h names, and its place where it has one.
+#[derive(Clone, Copy, Debug, PartialEq, Eq)]
+pub struct Refusal {
+    pub number: u8,
+    pub place: Option<usize>,
 }
 
-// What a read answers.
-pub fn of_answer(a: Answer) -> u64
-    ensures { result ≡ answer_of a }
-{
-    match a {
-        Answer::Accepted => 0,
-        Answer::Refused { number, place } => refusal(number, place),
-    }
-}
+// A kind or a setting that is none.
+pub const BAD_KIND: u8 = 5;
 
-// What a fresh start, a step or a run answers.
-pub fn of_outcome(o: Outcome) -> u64
-    ensures { result ≡ outcome_of (said o) }
-{
-    match o {
-        Outcome::Done => 0,
-        Outcome::Beyond => refusal(15, PLACELESS),
-        Outcome::Unfit => refusal(16, PLACELESS),
-        Outcome::Misfit => refusal(17, PLACELESS),
-    }
-}
+// A slot or a time beyond 2^40.
+pub const BEYOND: Refusal = Refusal {
+    number: 15,
+    place: None,
+};
 
-// What is asked about a time, laid down in a slice of one number.
-pub fn tell(a: ticks::Answer, answer: &mut [u64]) -> u64
-    ensures { (result, answer.new) ≡ telling (times.said a) answer.old }
+// A plan value, a state or a tick that no call takes.
+pub const UNFIT: Refusal = Refusal {
+    number: 16,
+    place: None,
+};
+
+// Buffer lengths that do not fit.
+pub const MISFIT: Refusal = Refusal {
+    number: 17,
+    place: None,
+};
+
+// The number in the low half, the place in the high half: the most that the half holds where there is none.
+#[tactic(auto, unfolding(crate::specs::Exports::refusal))]
+pub fn told(answer: Result<(), Refusal>) -> u64
+    ensures { result ≡ told answer }
 {
-    if answer.len() != 1 {
-        return refusal(17, PLACELESS);
-    }
-    match a {
-        ticks::Answer::Number(v) => {
-            answer[0] = v;
-            0
+    match answer {
+        Ok(()) => 0,
+        Err(refusal) => {
+            let place = refusal.place.unwrap_or(usize::MAX).min(0xffff_ffff);
+            refusal.number as u64 + 0x1_0000_0000 * place as u64
         }
-        ticks::Answer::Beyond => refusal(15, PLACELESS),
-        ticks::Answer::Unfit => refusal(16, PLACELESS),
+    }
+}
+
+// Whether buffers have the lengths that they are to have.
+pub fn lengths(fit: bool) -> Result<(), Refusal>
+    ensures { result ≡ cond fit (Ok tt) (Err MISFIT) }
+{
+    if fit { Ok(()) } else { Err(MISFIT) }
+}
+
+impl From<ticks::Refusal> for Refusal {
+    ghost from_gives = { λ r e. (times.said (Err r) ≡ times.refused e.number) × (e.place ≡ None) };
+
+    fn from(refusal: ticks::Refusal) -> Refusal {
+        Refusal {
+            number: refusal.number(),
+            place: None,
+        }
+    }
+}
+
+impl From<answers::Refusal> for Refusal {
+    ghost from_gives = { λ r e. e ≡ record { number = number_of r; place = place_in r } };
+
+    fn from(refusal: answers::Refusal) -> Refusal {
+        Refusal {
+            number: refusal.number(),
+            place: refusal.place(),
+        }
+    }
+}
+
+impl From<dispatch::Refusal> for Refusal {
+    ghost from_gives = { λ r e. e ≡ record { number = runs.number r; place = None } };
+
+    fn from(refusal: dispatch::Refusal) -> Refusal {
+        match refusal {
+            dispatch::Refusal::Beyond => BEYOND,
+            dispatch::Refusal::Unfit => UNFIT,
+            dispatch::Refusal::Misfit => MISFIT,
+        }
     }
 }

@@ -1,99 +1,116 @@
 // Giving out slots from numbers: those out of their fields are answered as an unfit value is.
-ghost use Rattle.std.specs.Prelude.{true, ◌≡◌, length};
-ghost use Rattle.dispatch.specs.Run.{said, standing, run_end, step_end};
-ghost use Rattle.exports.specs.Exports.{is_setting, setting_numbered, are_whole, stepped_by, ran_by, out_by, keeping};
+ghost use Rattle.std.specs.Prelude.{◌≡◌, ◌&&◌, true, false, Ok, Err, None, MatchResult, cond, length};
+ghost use Rattle.dispatch.specs.Run.{standing};
+ghost use Rattle.numbers.specs.Numbers.{plan_of_numbers, state_given, is_state};
+ghost use Rattle.exports.specs.Exports.{told, answers_of, is_setting, setting_numbered, are_whole, stepped_by, keeping, freshening, stepping, running};
 
-use dispatch::{Outcome, Ran, Setting, State, Stepped};
+use crate::refusals::{BAD_KIND, Refusal, UNFIT, lengths};
+use dispatch::{Setting, State};
+use plans::Plan;
 
-// Whether a plan and a state have the lengths that they are to have.
-pub fn are_whole(plan: &[u32], state: &[u64]) -> bool
-    ensures { result ≡ are_whole plan.now state.now }
+// A fresh state, and zeros where the plan value is refused.
+#[tactic(auto, unfolding(crate::specs::Exports::freshening, crate::specs::Exports::are_whole))]
+pub fn fresh(plan: &[u32], state: &mut [u64]) -> Result<(), Refusal>
+    ensures { (told result, state.new) ≡ freshening plan.now state.old }
 {
-    basics::both(plan.len() == 533, state.len() == 65)
+    lengths(are_whole(plan, state))?;
+    state.fill(0);
+    numbers::put_state(dispatch::fresh(numbers::plan_of(plan))?, state);
+    Ok(())
 }
 
-// Whether a number is that of a setting.
-pub fn is_setting(b: u8) -> bool
-    ensures { result ≡ is_setting b }
+// One slot: the state goes on, and the eight answers are laid down, of 255 where it is refused.
+#[tactic(auto, unfolding(crate::specs::Exports::stepping, crate::specs::Exports::are_whole))]
+pub fn step(
+    setting: u8,
+    plan: &[u32],
+    state: &mut [u64],
+    supplied: u8,
+    declines: u64,
+    grants: &mut [u8],
+) -> Result<(), Refusal>
+    ensures { (told result, state.new, grants.new) ≡
+        stepping setting plan.now state.old supplied declines grants.old }
 {
-    b <= 1
+    lengths(are_whole(plan, state) && grants.len() == 8)?;
+    grants.fill(255);
+    grants.copy_from_slice(&stepped(setting, plan, state, supplied, declines)?);
+    Ok(())
 }
 
-// Settings 0 and 1; another is refused before it comes here.
-fn setting_of(b: u8) -> Setting
-    ensures { result ≡ setting_numbered b }
+// The answers of a slot. The state goes on where it is not refused.
+#[tactic(auto, unfolding(crate::specs::Exports::stepped_by, crate::specs::Exports::by_numbers, numbers::specs::Numbers::state_given))]
+fn stepped(
+    setting: u8,
+    plan: &[u32],
+    state: &mut [u64],
+    supplied: u8,
+    declines: u64,
+) -> Result<[u8; 8], Refusal>
+    requires { length state.old ≡ 65 }
+    ensures kept { let s = stepped_by setting plan.now state.old supplied declines in (told result, state.new) ≡ keeping s.outcome s.state state.old }
+    ensures answers { answers_of result ≡
+        (stepped_by setting plan.now state.old supplied declines).grants }
 {
-    match b {
-        0 => Setting::Off,
-        _ => Setting::On,
-    }
+    let (setting, plan, mut standing) = values_of(setting, plan, state)?;
+    let grants = dispatch::step(setting, plan, &mut standing, supplied, declines)?;
+    numbers::put_state(standing, state);
+    Ok(grants)
 }
 
-// One slot, of the values that the numbers say. What state an unfit step hands back does not matter: it is not laid down.
-pub fn step(setting: u8, plan: &[u32], state: &[u64], supplied: u8, declines: u64) -> Stepped
-    requires { is_setting setting ≡ true }
-    ensures { step_end result ≡ stepped_by setting plan.now state.now supplied declines }
-{
-    let given = numbers::state_of(state);
-    let before = given.state;
-    if !given.fit {
-        let none = [255; 8];
-        return Stepped {
-            outcome: Outcome::Unfit,
-            state: before,
-            grants: none,
-        };
-    }
-    let value = numbers::plan_of(plan);
-    dispatch::step(setting_of(setting), value, before, supplied, declines)
-}
-
-// A run, in the same way.
+// As many slots as there are supply bytes: the state goes on by them, and their answers are laid down.
+#[tactic(auto, unfolding(crate::specs::Exports::running, crate::specs::Exports::are_whole, crate::specs::Exports::ran_by, crate::specs::Exports::out_by, crate::specs::Exports::by_numbers, numbers::specs::Numbers::state_given))]
 pub fn run(
     setting: u8,
     plan: &[u32],
-    state: &[u64],
+    state: &mut [u64],
     supplies: &[u8],
     declines: &[u64],
     out: &mut [u8],
-) -> Ran
-    requires { is_setting setting ≡ true }
-    ensures result { run_end result ≡ ran_by setting plan.now state.now supplies.now declines.now (length out.old) }
-    ensures buffer { out.new ≡
-        out_by setting plan.now state.now supplies.now declines.now out.old }
+) -> Result<(), Refusal>
+    ensures { (told result, state.new, out.new) ≡
+        running setting plan.now state.old supplies.now declines.now out.old }
 {
-    let given = numbers::state_of(state);
-    let before = given.state;
-    if !given.fit {
-        return Ran {
-            outcome: Outcome::Unfit,
-            state: before,
-        };
-    }
-    let value = numbers::plan_of(plan);
-    dispatch::run(setting_of(setting), value, before, supplies, declines, out)
+    lengths(are_whole(plan, state))?;
+    let (setting, plan, mut standing) = values_of(setting, plan, state)?;
+    dispatch::run(setting, plan, &mut standing, supplies, declines, out)?;
+    numbers::put_state(standing, state);
+    Ok(())
 }
 
-// The eight answers of a step.
-pub fn put_grants(answers: [u8; 8], out: &mut [u8])
-    requires { length out.old ≡ 8 }
-    ensures { out.new ≡ answers }
+// The values that numbers say. The setting is looked at first, then the state.
+// It takes no closure for the call after that: this would save a step and a run one line each, and its contract would have to speak of the closure's.
+#[tactic(auto, unfolding(crate::specs::Exports::is_setting, crate::specs::Exports::setting_numbered, numbers::specs::Numbers::state_given))]
+fn values_of(setting: u8, plan: &[u32], state: &[u64]) -> Result<(Setting, Plan, State), Refusal>
+    ensures { MatchResult result
+        (λ v. (is_setting setting ≡ true) × (v.0 ≡ setting_numbered setting) × (v.1 ≡ plan_of_numbers plan.now) × (state_given state.now ≡ (true, standing v.2)))
+        (λ r. (r ≡ record { number = cond (is_setting setting) 16 5; place = None }) × ((is_setting setting && is_state state.now) ≡ false)) }
 {
-    let mut i: usize = 0;
-    while i < 8 {
-        out[i] = answers[i];
-        i += 1;
-    }
+    let setting = setting_of(setting)?;
+    let standing = numbers::state_of(state).ok_or(UNFIT)?;
+    Ok((setting, numbers::plan_of(plan), standing))
 }
 
-// What a step or a run answers. The state is laid down where it was done, and else left as it was.
-pub fn keep(outcome: Outcome, after: State, state: &mut [u64]) -> u64
-    requires { length state.old ≡ 65 }
-    ensures { (result, state.new) ≡ keeping (said outcome) (standing after) state.old }
+// Whether a plan and a state have the lengths that they are to have.
+#[tactic(auto, unfolding(crate::specs::Exports::are_whole))]
+fn are_whole(plan: &[u32], state: &[u64]) -> bool
+    ensures { result ≡ are_whole plan.now state.now }
 {
-    let Outcome::Done = outcome else {
-        return crate::refusals::of_outcome(outcome);
-    };
-    numbers::put_state(after, state);
-    0
+    plan.len() == 533 && state.len() == 65
+}
+
+// Setting 0 or 1. Another has no place, as a call has one setting.
+#[tactic(auto, unfolding(crate::specs::Exports::is_setting, crate::specs::Exports::setting_numbered))]
+fn setting_of(b: u8) -> Result<Setting, Refusal>
+    ensures { result ≡
+        cond (is_setting b) (Ok (setting_numbered b)) (Err (record { number = BAD_KIND; place = None })) }
+{
+    match b {
+        0 => Ok(Setting::Off),
+        1 => Ok(Setting::On),
+        _ => Err(Refusal {
+            number: BAD_KIND,
+            place: None,
+        }),
+    }
 }

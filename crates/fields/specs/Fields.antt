@@ -5,7 +5,7 @@ use Rattle.meaning.specs.Types.{well_formed}
 use Rattle.meaning.specs.declared.SlotType.{SlotType}
 use Rattle.meaning.specs.declared.Misses.{Misses}
 use Rattle.answers.specs.Answers.{first, test}
-use Rattle.answers.specs.declared.Answer.{Answer}
+use Rattle.answers.specs.Answers.{Answer}
 
 unfoldable pub byte_at : List ℕ → ℕ → ℕ
 byte_at s k = get_or s k 0

@@ -3,88 +3,69 @@
 #![tactic(auto)]
 
 ghost use Rattle.std.specs.Prelude.{◌≡◌};
+ghost use Rattle.answers.specs.Answers.{answered};
 ghost use Rattle.fields.specs.Fields.{byte_at, two_at, four_at, type_at, misses_at, there, check_type};
 
-use answers::Answer;
+use answers::{Refusal, Rule};
 use meaning::{Misses, SlotType};
 
+#[tactic(auto, unfolding(crate::specs::Fields::byte_at))]
 pub fn byte_at(s: &[u8], k: usize) -> u8
     ensures { result ≡ byte_at s.now k }
 {
-    if k < s.len() { s[k] } else { 0 }
+    s.get(k).copied().unwrap_or(0)
 }
 
+#[tactic(auto, using(crate::proofs::Ends::byte_further), unfolding(crate::specs::Fields::two_at))]
 pub fn two_at(s: &[u8], k: usize) -> u16
     ensures { result ≡ two_at s.now k }
 {
-    if s.len() <= k {
-        return 0;
-    }
-    let low = byte_at(s, k) as u16;
-    let high = byte_at(s, k + 1) as u16;
-    low + 256 * high
+    u16::from_le_bytes([byte_at(s, k), byte_at(s, k.saturating_add(1))])
 }
 
+#[tactic(auto, using(crate::proofs::Ends::two_further), unfolding(crate::specs::Fields::four_at))]
 pub fn four_at(s: &[u8], k: usize) -> u32
     ensures { result ≡ four_at s.now k }
 {
-    if s.len() <= k {
-        return 0;
-    }
-    let low = two_at(s, k) as u32;
-    let high = two_at(s, k + 2) as u32;
-    low + 65536 * high
+    u32::from(two_at(s, k)) + 65536 * u32::from(two_at(s, k.saturating_add(2)))
 }
 
+#[tactic(auto, using(crate::proofs::Ends::two_further), unfolding(crate::specs::Fields::type_at))]
 pub fn type_at(s: &[u8], k: usize) -> SlotType
     ensures { result ≡ type_at s.now k }
 {
-    if s.len() <= k {
-        return SlotType { c: 0, t: 0 };
-    }
     SlotType {
         c: two_at(s, k),
-        t: two_at(s, k + 2),
+        t: two_at(s, k.saturating_add(2)),
     }
 }
 
-// D and W, of which D begins at k.
+// D and W, of which D begins at k: the twin of `type_at`, since the documents name the two pairs of numbers apart.
+#[tactic(auto, using(crate::proofs::Ends::two_further), unfolding(crate::specs::Fields::misses_at))]
 pub fn misses_at(s: &[u8], k: usize) -> Misses
     ensures { result ≡ misses_at s.now k }
 {
-    if s.len() <= k {
-        return Misses { d: 0, w: 0 };
-    }
     Misses {
         d: two_at(s, k),
-        w: two_at(s, k + 2),
+        w: two_at(s, k.saturating_add(2)),
     }
 }
 
 // Whether the n bytes of a field from k on are all there.
-pub fn is_there(s: &[u8], k: usize, n: usize) -> Answer
-    ensures { result ≡ there s.now k n }
+#[tactic(auto, unfolding(crate::specs::Fields::there))]
+pub fn is_there(s: &[u8], k: usize, n: usize) -> Result<(), Refusal>
+    ensures { answered result ≡ there s.now k n }
 {
-    if s.len() < k {
-        return Answer::Refused {
-            number: 1,
-            place: k,
-        };
-    }
-    answers::tested(n <= s.len() - k, 1, k)
+    answers::tested(k <= s.len() && n <= s.len() - k, Rule::There, k)
 }
 
 // The type whose C begins at k: its two numbers, then its form.
-pub fn check_type(s: &[u8], k: usize) -> Answer
-    ensures { result ≡ check_type s.now k }
+#[tactic(auto, using(crate::proofs::Ends::there_ends), unfolding(crate::specs::Fields::check_type, answers::specs::Answers::first))]
+pub fn check_type(s: &[u8], k: usize) -> Result<(), Refusal>
+    ensures { answered result ≡ check_type s.now k }
 {
-    let count = is_there(s, k, 2);
-    let Answer::Accepted = count else {
-        return count;
-    };
-    let period = is_there(s, k + 2, 2);
-    let Answer::Accepted = period else {
-        return period;
-    };
-    answers::tested(meaning::is_well_formed(type_at(s, k)), 4, k)
+    is_there(s, k, 2)?;
+    is_there(s, k + 2, 2)?;
+    let form = meaning::is_well_formed(type_at(s, k));
+    answers::tested(form, Rule::WellFormed, k)
 }

@@ -11,6 +11,7 @@ use lib.Dec.{eqb}
 use lib.ListN.{length, get_or, take, length-append}
 use lib.Seq.{ext_get_or, get_or-take, length-take-le}
 use borrow.Author.Tests.{eq-eqb}
+use Rattle.std.specs.Prelude.{Some}
 use Rattle.ticks.specs.Times.{in_range, is_fit}
 use Rattle.ticks.proofs.Answers.{fit}
 use Rattle.meaning.specs.Types.{well_formed}
@@ -28,7 +29,6 @@ use Rattle.plans.proofs.Parents.{allowed_allows}
 use Rattle.fields.specs.Fields.{byte_at, four_at}
 use Rattle.decode.specs.Positions.{edition_of, further, cores_at, cores_of, supply_start, served_at, nodes_at, size_of, node_start, names_at, name_start, end_at}
 use Rattle.decode.specs.Decode.{parent_named, is_named, misses_or, supply_of, node_of, plan_of}
-use Rattle.decode.specs.declared.Named.TheVariants.{Parent as names_parent}
 use Rattle.decode.proofs.Entries.{filled_is}
 use Rattle.names.specs.Names.{same_name}
 use Rattle.reader.proofs.Accepts.{FieldsKept, NodeKept, NameKept}
@@ -191,7 +191,7 @@ module _ (s : List ℕ) (plan : Plan) (names : List (List ℕ)) (file : Begins s
         let formed = sound.supplies i l in
         type_read s (supply_start s i) (supply_at plan i) (small_count _ formed) (small_period _ formed) (supply_here i l)
 
-    named_parent : (i : ℕ) → i < plan.size → parent_named (parent_byte (parent_of plan i)) ≡ names_parent (parent_of plan i)
+    named_parent : (i : ℕ) → i < plan.size → parent_named (parent_byte (parent_of plan i)) ≡ Some (parent_of plan i)
     named_parent i l =
         parent_named_lem plan i (parent_of plan i) sound.eight_cores (omega (arith, sound.sixty_four_nodes)) (sound.parents i l)
 

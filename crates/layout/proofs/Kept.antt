@@ -7,9 +7,7 @@ use native.Mathlib.Omega.{arith}
 use lib.ListN.{length, get_or, take}
 use lib.Seq.{length-take-le}
 use borrow.Author.Tests.{lt-ltb}
-use Rattle.answers.specs.Answers.{Place, none, at, nowhere, accepted, refused, said, accepts}
-use Rattle.answers.specs.declared.Answer.{Answer}
-use Rattle.answers.specs.declared.Answer.TheVariants.{Accepted, Refused}
+use Rattle.answers.specs.Answers.{Answer, Accepted, Refused, Place, none, at, nowhere, accepted, refused, said, accepts}
 use Rattle.answers.proofs.Laws.{said_accepted, said_refused, refused_at, first_accepted, first_accepted_left, first_first, first_second, first_refused, accepts_true, accepts_accepted}
 use Rattle.plans.specs.Sound.{Sound, sound}
 use Rattle.plans.specs.declared.Plan.{Plan}
@@ -21,7 +19,7 @@ use Rattle.rules.proofs.Kept.{fits_exactly, rules_exactly, broken_range, broken_
 use Rattle.rules.proofs.KeptBefore.{stays_fit}
 use Rattle.decode.specs.Positions.{size_of, end_at}
 use Rattle.decode.specs.Decode.{plan_of}
-use Rattle.reader.specs.Read.{check_end, check_bytes, read_answer, read_plan, name_of}
+use Rattle.reader.specs.Read.{check_end, check_bytes, read_answer, read_plan, has_name, name_of}
 use Rattle.reader.proofs.Accepts.{check_fields, bytes_checked, fields_kept, bytes_kept}
 use Rattle.reader.proofs.Spelled.{spelled_sound, accepted_plan}
 use Rattle.reader.proofs.Kept.{accepted_fit}
@@ -223,7 +221,7 @@ refuses_at_place s small r p e = go p e
 
 -- a name is handed out as it was laid out
 pub names_placed : NamesPlaced
-unfolding name_of name_in plan_of
+unfolding has_name name_of name_in plan_of
 names_placed s plan names file h i l =
     let size : size_of s ≡ plan.size = ap (λ p. p.size) (file_plan s plan names file h.sound) in
     let here : i < size_of s = omega (arith, size) in

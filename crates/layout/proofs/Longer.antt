@@ -7,9 +7,7 @@ use native.Mathlib.Omega.{arith}
 use lib.ListN.{length, take, replicate}
 use lib.Seq.{get_or-take, take_all, length-take-le}
 use borrow.Author.Tests.{le-leb, lt-leb}
-use Rattle.answers.specs.Answers.{first, test, each}
-use Rattle.answers.specs.declared.Answer.{Answer}
-use Rattle.answers.specs.declared.Answer.TheVariants.{Accepted, Refused}
+use Rattle.answers.specs.Answers.{Answer, Accepted, Refused, first, test, each}
 use Rattle.answers.proofs.Laws.{first_accepted_left, first_accepted_right, first_alike, each_accepted, each_accepted_at, each_alike, each_ext}
 use Rattle.plans.specs.Plan.{zero_type, zero_node}
 use Rattle.plans.proofs.All.{all_ext}

@@ -7,6 +7,7 @@ use native.Mathlib.Omega.{arith}
 use lib.Dec.{eqb, ltb}
 use lib.ListN.{length}
 use borrow.Author.Tests.{lt-ltb, le-ltb, ltb-false}
+use Rattle.std.specs.Prelude.{Some, None}
 use Rattle.meaning.specs.declared.Misses.{Misses}
 use Rattle.plans.specs.Plan.{no_misses}
 use Rattle.plans.specs.Sound.{Allowed, supply, host}
@@ -19,7 +20,6 @@ use Rattle.plans.specs.declared.Plan.{Plan}
 use Rattle.fields.specs.Fields.{byte_at, type_at, misses_at}
 use Rattle.decode.specs.Positions.{edition_of, further, node_start, served_at}
 use Rattle.decode.specs.Decode.{kind_named, parent_of_byte, can_be, parent_named, is_named, parent_or, misses_or, node_of}
-use Rattle.decode.specs.declared.Named.TheVariants.{Parent as names, Nothing}
 use Rattle.reader.proofs.Accepts.{NodeKept}
 use Rattle.layout.specs.Layout.{two_bytes, type_bytes, kind_byte, parent_byte, misses_bytes, node_bytes}
 use Rattle.layout.specs.Promises.{Bytes}
@@ -56,7 +56,7 @@ pub parent_spelled : (b : ℕ) → is_named (parent_named b) ≡ true → parent
 unfolding parent_named parent_or is_named
 parent_spelled b e = go (can_be (parent_of_byte b)) e
   where
-    go : (x : Bool) → is_named (cond x (names (parent_of_byte b)) Nothing) ≡ true → parent_byte (parent_or (cond x (names (parent_of_byte b)) Nothing)) ≡ b
+    go : (x : Bool) → is_named (cond x (Some (parent_of_byte b)) None) ≡ true → parent_byte (parent_or (cond x (Some (parent_of_byte b)) None)) ≡ b
     go true named = parent_byte_lem b
     go false named = cc
 
@@ -71,7 +71,7 @@ unfolding parent_of_byte parent_byte
 byte_node h = let same : 128 + h - 128 ≡ h = omega arith in rw (le-ltb (128 + h) 128 (omega arith), same)
 
 -- and so that of a parent that is allowed
-pub parent_named_lem : (plan : Plan) (i : ℕ) (p : Parent) → plan.cores ≤ 8 → i ≤ 64 → Allowed plan i p → parent_named (parent_byte p) ≡ names p
+pub parent_named_lem : (plan : Plan) (i : ℕ) (p : Parent) → plan.cores ≤ 8 → i ≤ 64 → Allowed plan i p → parent_named (parent_byte p) ≡ Some p
 unfolding parent_named can_be
 parent_named_lem plan i p few short (supply {s = n} l) = rw (byte_supply n (omega arith), lt-ltb n 8 (omega arith))
 parent_named_lem plan i p few short (host {h = h} l e) = rw (byte_node h, lt-ltb h 64 (omega arith))
@@ -125,7 +125,7 @@ pub record Spelled (edition : ℕ) (n : Node) : Type 0 where
   pub stretch : n.misses.w < 65536
   pub served_count : n.served.c < 65536
   pub served_period : n.served.t < 65536
-  pub parent : parent_named (parent_byte n.parent) ≡ names n.parent
+  pub parent : parent_named (parent_byte n.parent) ≡ Some n.parent
   pub none : eqb edition 2 ≡ false → n.misses ≡ no_misses
 
 -- and such a node that is held from its start on is the one that is spelled

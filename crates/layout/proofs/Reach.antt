@@ -8,8 +8,7 @@ use native.Mathlib.Omega.{arith}
 use lib.Dec.{leb}
 use lib.ListN.{length}
 use borrow.Author.Tests.{leb-true}
-use Rattle.answers.specs.Answers.{test, each}
-use Rattle.answers.specs.declared.Answer.TheVariants.{Accepted}
+use Rattle.answers.specs.Answers.{Accepted, test, each}
 use Rattle.answers.proofs.Laws.{said_accepted, first_accepted_left, first_accepted_right, test_accepted, each_accepted}
 use Rattle.rules.specs.Check.{rules}
 use Rattle.decode.specs.Positions.{edition_of, further, cores_at, cores_of, supply_start, nodes_at, size_of, node_start, names_at, name_start, end_at}

@@ -9,9 +9,7 @@ use native.Mathlib.Omega.{arith}
 use lib.Dec.{leb, eqb}
 use lib.ListN.{length}
 use borrow.Author.Tests.{leb-true, leb-false, lt-leb, eqb-true}
-use Rattle.answers.specs.Answers.{first, test, each}
-use Rattle.answers.specs.declared.Answer.{Answer}
-use Rattle.answers.specs.declared.Answer.TheVariants.{Accepted, Refused}
+use Rattle.answers.specs.Answers.{Answer, Accepted, Refused, first, test, each}
 use Rattle.answers.proofs.Laws.{first_refused, test_false, test_refused}
 use Rattle.plans.proofs.All.{left_true, right_true}
 use Rattle.fields.specs.Fields.{byte_at, there, check_type}

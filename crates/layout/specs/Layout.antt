@@ -1,12 +1,9 @@
 -- A plan value and its names, laid out as the bytes of a plan file: document 01, "The plan file", and document 02, request 6. Assumes nothing.
-use Rattle.std.specs.Prelude.{ℕ, zero, suc, ◌+◌, ◌/◌, ◌%◌, ◌≤◌, ◌<◌, cond, List, [], ◌∷◌, ◌++◌, ◌≡◌, eqb, length, get_or, replicate}
+use Rattle.std.specs.Prelude.{ℕ, zero, suc, ◌/◌, ◌%◌, ◌≤◌, ◌<◌, cond, List, [], ◌∷◌, ◌++◌, ◌≡◌, eqb, length, get_or, replicate}
 use Rattle.meaning.specs.declared.SlotType.{SlotType}
 use Rattle.meaning.specs.declared.Misses.{Misses}
+unfoldable pub use Rattle.plans.specs.Bytes.{kind_byte, parent_byte}
 use Rattle.plans.specs.Plan.{There, supply_at, node_at}
-use Rattle.plans.specs.declared.NodeKind.{NodeKind}
-use Rattle.plans.specs.declared.NodeKind.TheVariants.{AlignedLeaf, SlidingLeaf, Host}
-use Rattle.plans.specs.declared.Parent.{Parent}
-use Rattle.plans.specs.declared.Parent.TheVariants.{Supply, Node as Under}
 use Rattle.plans.specs.declared.Node.{Node}
 use Rattle.plans.specs.declared.Plan.{Plan}
 
@@ -20,21 +17,11 @@ four_bytes n = two_bytes (n % 65536) ++ two_bytes (n / 65536)
 unfoldable pub type_bytes : SlotType → List ℕ
 type_bytes a = two_bytes a.c ++ two_bytes a.t
 
--- 01: "kind (0 aligned leaf, 1 sliding leaf, 2 virtual host)"
-unfoldable pub kind_byte : NodeKind → ℕ
-kind_byte AlignedLeaf = 0
-kind_byte SlidingLeaf = 1
-kind_byte Host = 2
-
--- 01: "A parent byte below 128 names a supply, and 128 and up names node (byte − 128)"
-unfoldable pub parent_byte : Parent → ℕ
-parent_byte (Supply s) = s
-parent_byte (Under h) = 128 + h
-
 -- 02: "In edition 2 .. every node carries D and W (two bytes each, ..) after its wanted type"
 unfoldable pub misses_bytes : ℕ → Misses → List ℕ
 misses_bytes edition m = cond (eqb edition 2) (two_bytes m.d ++ two_bytes m.w) []
 
+-- 01: "kind .., parent, wanted C and T, served C and T", the numbers of a kind and a parent as in the crate `plans`
 unfoldable pub node_bytes : ℕ → Node → List ℕ
 node_bytes edition n =
     kind_byte n.kind ∷ parent_byte n.parent ∷ (type_bytes n.wanted ++ (misses_bytes edition n.misses ++ type_bytes n.served))

@@ -1,5 +1,6 @@
 -- The numbers and bytes that digits spell. Assumes nothing.
-use Rattle.std.specs.Prelude.{ℕ, zero, suc, ◌+◌, ◌*◌, ◌-◌, min, cond, List, [], ◌∷◌, ◌++◌, ltb, length, get_or}
+use Rattle.std.specs.Prelude.{ℕ, zero, suc, ◌+◌, ◌*◌, ◌-◌, min, cond, List, [], ◌∷◌, ◌++◌, ltb, get_or}
+use Rattle.std.specs.List.{fold}
 
 -- what a byte stands for as a digit: `0` to `9` for 0 to 9, `a` to `f` for 10 to 15, any other for 0
 unfoldable pub digit_of : ℕ → ℕ
@@ -9,14 +10,9 @@ digit_of c = cond (ltb c 48) 0 (cond (ltb c 58) (c - 48) (cond (ltb c 97) 0 (con
 abbrev pub longer_by : ℕ → ℕ → ℕ → ℕ
 longer_by base n digit = min (n * base + digit) 18446744073709551615
 
--- the number that the first k bytes of s spell
-unfoldable pub spelled : ℕ → List ℕ → ℕ → ℕ
-spelled base s zero = 0
-spelled base s (suc k) = longer_by base (spelled base s k) (digit_of (get_or s k 0))
-
--- the number that all of s spells
+-- the number that the digits of s spell, from the first on
 abbrev pub number_of : ℕ → List ℕ → ℕ
-number_of base s = spelled base s (length s)
+number_of base s = fold (λ n c. longer_by base n (digit_of c)) 0 s
 
 -- the byte that the two hex digits from place 2 * i on spell
 abbrev pub byte_of : List ℕ → ℕ → ℕ

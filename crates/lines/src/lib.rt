@@ -1,90 +1,67 @@
 // Lines of text, their words, and the numbers and bytes that words spell: with this the programs that run vectors read their input.
-// Each call on bytes takes any bytes and any place among them: what is not there reads as an empty part or as 0.
+// Each call takes any bytes: what is not there reads as an empty word or as 0.
 // The definitions that the contracts cite are in specs/Parts.antt and specs/Digits.antt.
 #![tactic(auto)]
 
-ghost use Rattle.std.specs.Prelude.{◌≡◌, cond, ◌++◌, ◌/◌, ◌<◌, ◌≤◌, min, ltb, length, get_or, drop, IfOk};
-ghost use Rattle.lines.specs.Parts.{end_of, part_of, past_of};
+ghost use Rattle.std.specs.Prelude.{◌≡◌, ◌++◌, ◌/◌, ◌<◌, min, leb, length, drop, position};
+ghost use Rattle.std.specs.Iterator.{item_count, YieldsFirstRef};
+ghost use Rattle.lines.specs.Parts.{before, behind, lines_of};
 ghost use Rattle.lines.specs.Digits.{digit_of, longer_by, number_of, bytes_of};
 
-use std::io;
-use std::io::Read;
+// The lines of a text, from the first on.
+#[derive(Drop)]
+pub struct Lines<'a>(pub &'a [u8]);
 
-// The bytes from `at` on up to the first that is at most `stop`: a line for b'\n', a word for b' ', which a line's end ends too.
-pub fn part(s: &[u8], at: usize, stop: u8) -> &[u8]
-    ensures { result.now ≡ part_of s.now at stop }
-{
-    let end = end_of(s, at, stop);
-    if at < end { &s[at..end] } else { &s[..0] }
-}
+impl<'a> Iterator for Lines<'a> {
+    type Item = &'a [u8];
 
-// Where to go on behind that part: after the byte that ends it, or at the end.
-pub fn past(s: &[u8], at: usize, stop: u8) -> usize
-    ensures { result ≡ past_of s.now at stop }
-{
-    let end = end_of(s, at, stop);
-    if end < s.len() { end + 1 } else { end }
-}
+    ghost next_gives = { YieldsFirstRef (λ l. lines_of l.0.now) };
 
-fn end_of(s: &[u8], at: usize, stop: u8) -> usize
-    ensures { result ≡ end_of s.now at stop }
-{
-    for i in at..s.len() {
-        if s[i] <= stop {
-            return i;
+    ghost remaining = { item_count (λ l. lines_of l.0.now) };
+
+    #[tactic(auto, using(crate::proofs::Parts::lines_none, crate::proofs::Parts::lines_more))]
+    fn next(&mut self) -> Option<&'a [u8]> {
+        if self.0.is_empty() {
+            return None;
         }
+        let (line, rest) = cut(self.0, b'\n');
+        self.0 = rest;
+        Some(line)
     }
-    s.len()
 }
 
-// The byte at `at`, or 0 past the end.
-pub fn byte(s: &[u8], at: usize) -> u8
-    ensures { result ≡ get_or s.now at 0 }
+// The bytes up to the first that is at most `stop`, and those behind it: a line for b'\n', a word for b' ', which a line's end ends too.
+pub fn cut(s: &[u8], stop: u8) -> (&[u8], &[u8])
+    ensures part { result.0.now ≡ before stop s.now }
+    ensures rest { result.1.now ≡ behind stop s.now }
 {
-    if at < s.len() { s[at] } else { 0 }
+    match end_of(s, stop) {
+        Some(end) => (&s[..end], &s[end + 1..]),
+        None => (s, &s[s.len()..]),
+    }
 }
 
-// The number that the decimal digits of that part spell, or the largest of 64 bits where it is larger than that.
-pub fn decimal(s: &[u8], at: usize, stop: u8) -> u64
-    ensures { result ≡ number_of 10 (part_of s.now at stop) }
+fn end_of(s: &[u8], stop: u8) -> Option<usize>
+    ensures { result ≡ position (λ c. leb c stop) s.now }
 {
-    number(part(s, at, stop), 10)
+    s.iter().position(|c| *c <= stop)
 }
 
-// The same of hex digits.
-pub fn hex(s: &[u8], at: usize, stop: u8) -> u64
-    ensures { result ≡ number_of 16 (part_of s.now at stop) }
-{
-    number(part(s, at, stop), 16)
-}
-
-fn number(word: &[u8], base: u64) -> u64
-    requires { 0 < base }
+// The number that a word's digits spell in a base, or the largest of 64 bits where it is larger than that.
+pub fn number(word: &[u8], base: u64) -> u64
     ensures { result ≡ number_of base word.now }
 {
-    let mut n: u64 = 0;
-    for i in 0..word.len() {
-        n = longer(n, base, digit(word[i]));
-    }
-    n
+    word.iter().fold(0, |n, c| longer(n, base, digit(*c)))
 }
 
-// The largest number of 64 bits.
-const MOST: u64 = 18446744073709551615;
-
 fn longer(n: u64, base: u64, digit: u8) -> u64
-    requires { 0 < base }
     ensures { result ≡ longer_by base n digit }
 {
-    let room = MOST - digit as u64;
-    if n <= room / base {
-        n * base + digit as u64
-    } else {
-        MOST
-    }
+    n.saturating_mul(base).saturating_add(digit as u64)
 }
 
 // What a digit stands for, decimal or hex; any other byte counts as 0.
+#[tactic(auto, unfolding(crate::specs::Digits::digit_of))]
 fn digit(c: u8) -> u8
     ensures value { result ≡ digit_of c }
     ensures small { result < 16 }
@@ -97,42 +74,16 @@ fn digit(c: u8) -> u8
 }
 
 // Puts the bytes that the word's hex digits spell, two a byte, at the start of `out`, as many as it has room for, and says how many they are.
+#[tactic(auto, using(crate::proofs::Digits::bytes_none))]
 pub fn bytes(word: &[u8], out: &mut [u8]) -> usize
     ensures count { result ≡ min (length word.now / 2) (length out.old) }
     ensures written { out.new ≡ bytes_of word.now result ++ drop result out.old }
 {
-    let n = least(word.len() / 2, out.len());
-    for i in 0..n {
-        out[i] = digit(word[2 * i]) * 16 + digit(word[2 * i + 1]);
+    let (pairs, _) = word.as_chunks::<2>();
+    let count = out.len().min(pairs.len());
+    // `out` by its index: a proof knows nothing of what `out.iter_mut().zip(pairs)` writes.
+    for (i, [high, low]) in pairs[..count].iter().enumerate() {
+        out[i] = digit(*high) * 16 + digit(*low);
     }
-    n
-}
-
-// The lesser of two numbers.
-pub fn least(a: usize, b: usize) -> usize
-    ensures { result ≡ min a b }
-{
-    if a < b { a } else { b }
-}
-
-// A number that is to fit 16 bits: 0 where it does not.
-pub fn sixteen(n: u64) -> u16
-    ensures { result ≡ cond (ltb n 65536) n 0 }
-{
-    if n < 65536 { n as u16 } else { 0 }
-}
-
-// Reads until `room` is full or the input ends, and says how many bytes of it are filled.
-pub fn read_full(input: &mut impl Read, room: &mut [u8]) -> io::Result<usize>
-    ensures { IfOk result (λ n. n ≤ length room.new) }
-{
-    let mut done: usize = 0;
-    while done < room.len() {
-        let n = input.read(&mut room[done..])?;
-        if n == 0 {
-            break;
-        }
-        done += n;
-    }
-    Ok(done)
+    count
 }

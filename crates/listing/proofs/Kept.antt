@@ -4,12 +4,12 @@ use mathlib.Core.List.{List}
 use mathlib.Core.Path.{◌≡◌, refl, sym, ap, ◌∙◌}
 use native.Mathlib.Omega.{arith}
 use lib.ListN.{take}
+use Rattle.std.specs.Prelude.{Ok, Err}
 use lib.Seq.{take_all}
 use Rattle.meaning.specs.declared.Kind.TheVariants.{Aligned}
 use Rattle.meaning.proofs.WellFormed.{bounds}
 use Rattle.types.proofs.KeptLeast.{least_of_lem}
-use Rattle.answers.specs.declared.Answer.{Answer}
-use Rattle.answers.specs.declared.Answer.TheVariants.{Accepted, Refused}
+use Rattle.answers.specs.Answers.{Answer, Accepted, Refused}
 use Rattle.plans.proofs.Depth.{depth_positive}
 use Rattle.plans.proofs.Parents.{node_depth}
 use Rattle.plans.specs.Plan.{kind_of, wanted_of, served_of, wanted_as}
@@ -21,7 +21,6 @@ use Rattle.layout.proofs.Longer.{longer_alike}
 use Rattle.listing.proofs.Texts.{text_most}
 use Rattle.listing.specs.Promises.{Suffices, DepthPrinted, LeastPrinted, OneListing, LongerListed}
 use Rattle.listing.specs.Text.{above, depth_to, depth_of, least_of, refused_text, text}
-use Rattle.listing.specs.declared.Listed.TheVariants.{Written, Short}
 
 -- 3,708 bytes always suffice
 pub suffices : Suffices
@@ -49,10 +48,10 @@ least_printed plan sound i l =
 
 -- two answers that say the same are the same
 pub one_listing : OneListing
-one_listing (Written n) (Written m) e = cc
-one_listing (Written n) Short e = cc
-one_listing Short (Written m) e = cc
-one_listing Short Short e = refl
+one_listing (Ok n) (Ok m) e = cc
+one_listing (Ok n) (Err _) e = cc
+one_listing (Err _) (Ok m) e = cc
+one_listing (Err _) (Err _) e = refl
 
 -- a refused plan is listed by its refusal alone
 refused_text_lem : (s : List ℕ) (r k : ℕ) → (read_plan s).answer ≡ Refused r k → text s ≡ refused_text r k

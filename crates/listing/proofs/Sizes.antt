@@ -1,13 +1,17 @@
 -- How long the pieces of a text can be, and so how long a text. Assumes nothing.
-use Prim.Native.Nat.{ℕ, zero, suc, ◌+◌, ◌*◌, ◌/◌, ◌%◌, ◌^◌, ◌≤◌, ◌<◌}
+use Prim.Native.Nat.{ℕ, zero, suc, ◌+◌, ◌*◌, ◌/◌, ◌%◌, ◌≤◌, ◌<◌}
 use mathlib.Core.Bool.{Bool, true, false, cond}
 use mathlib.Core.List.{List, [], ◌∷◌, ◌++◌}
 use mathlib.Core.Path.{◌≡◌, refl}
 use lib.Dec.{ltb}
-use lib.ListN.{length, get_or, set, take, replicate, length-append}
-use borrow.Author.Tests.{ltb-false, ne_eqb}
-use native.Mathlib.Nat.{pow-suc, div-lt_iff_lt-mul}
+use lib.ListN.{length, get_or, take, replicate, length-append}
+use borrow.Author.Tests.{ne_eqb}
 use native.Mathlib.Omega.{arith}
+use Rattle.std.proofs.Common.{inl, inr}
+use Rattle.std.specs.List.{All}
+use Rattle.std.proofs.lemmas.Bool.{cases_lt}
+use Rattle.std.proofs.lemmas.List.{get_or_past}
+use Rattle.std.proofs.lemmas.List.Elements.{All-set, All-append, All-take, All-replicate}
 use Rattle.ticks.specs.Times.{begins}
 use Rattle.meaning.proofs.WellFormed.{bounds}
 use Rattle.owed.proofs.Lowest.{lowest_low}
@@ -22,7 +26,6 @@ use Rattle.rules.specs.Fit.{sum_to}
 use Rattle.rules.proofs.Totals.{sum_grows}
 use Rattle.reader.specs.Read.{name_of}
 use Rattle.dispatch.proofs.Choices.{choice_below}
-use Rattle.dispatch.proofs.SlotsFresh.{replicate_everywhere}
 use Rattle.dispatch.specs.View.{View, bit_of, view_of}
 use Rattle.dispatch.specs.Choice.{Pick, nobody, just, choose}
 use Rattle.dispatch.specs.Passed.{passed_over}
@@ -30,30 +33,11 @@ use Rattle.dispatch.specs.Slot.{SlotEnd, charge, refilled, follow, walk, grantin
 use Rattle.dispatch.specs.Run.{started, course_to, course_by, course}
 use Rattle.dispatch.specs.declared.Setting.{Setting}
 use Rattle.dispatch.specs.declared.Setting.TheVariants.{Off}
+use Rattle.listing.proofs.Digits.{decimal_few}
 use Rattle.listing.proofs.SlotLines.{begins_most}
 use Rattle.layout.specs.Layout.{lays}
 use Rattle.listing.specs.Text.{digits, decimal, above, depth_to, depth_of, least_of, node_line}
 use Rattle.listing.specs.Text.{first_eight, answer_text, answer_part, slot_line, accepted_text, refused_text}
-
--- a number below 10 ^ (d + 1) has at most d + 1 digits
-digits_few : (k d n : ℕ) → n < 10 ^ suc d → length (digits k n) ≤ suc d
-unfolding digits
-digits_few zero d n h = omega arith
-digits_few (suc k) d n h = go (ltb n 10) refl d h (digits_few k)
-  where
-    go : (b : Bool) → ltb n 10 ≡ b → (d : ℕ) → n < 10 ^ suc d → ((d n : ℕ) → n < 10 ^ suc d → length (digits k n) ≤ suc d) →
-        length (cond b ((48 + n) ∷ []) (digits k (n / 10) ++ ((48 + n % 10) ∷ []))) ≤ suc d
-    go true e d h before = omega arith
-    go false e zero h before = absurd (omega (arith, ltb-false n 10 e))
-    go false e (suc d) h before =
-        let ten : 0 < 10 = omega arith in
-        let tens : n / 10 < 10 ^ suc d = (div-lt_iff_lt-mul ten).1 (rw (pow-suc 10 (suc d)) at h) in
-        omega (arith, length-append (digits k (n / 10)) ((48 + n % 10) ∷ []), before d (n / 10) tens)
-
--- and so many it has in decimal
-pub decimal_few : (d n : ℕ) → n < 10 ^ suc d → length (decimal n) ≤ suc d
-unfolding decimal
-decimal_few d n h = digits_few 20 d n h
 
 -- no number has more digits than it may
 digits_most : (k n : ℕ) → length (digits k n) ≤ k
@@ -80,36 +64,13 @@ depth_most plan (suc k) i = go (parent_of plan i) (depth_most plan k)
     go (Supply s) before = omega arith
     go (Under h) before = omega (arith, before h)
 
--- What holds of every number of a list, and of d, which is read past its end.
-module _ (P : ℕ → Type 0) (d : ℕ) (end : P d) where
-  abbrev Each : List ℕ → Type 0
-  Each xs = (k : ℕ) → P (get_or xs k d)
-
-  each_set : (xs : List ℕ) (i a : ℕ) → Each xs → P a → Each (set xs i a)
-  each_set [] i a h at k = h k
-  each_set (x ∷ xs) zero a h at zero = at
-  each_set (x ∷ xs) zero a h at (suc k) = h (suc k)
-  each_set (x ∷ xs) (suc i) a h at zero = h zero
-  each_set (x ∷ xs) (suc i) a h at (suc k) = each_set xs i a (λ j. h (suc j)) at k
-
-  each_append : (xs ys : List ℕ) → Each xs → Each ys → Each (xs ++ ys)
-  each_append [] ys h l k = l k
-  each_append (x ∷ xs) ys h l zero = h zero
-  each_append (x ∷ xs) ys h l (suc k) = each_append xs ys (λ j. h (suc j)) l k
-
-  each_take : (n : ℕ) (xs : List ℕ) → Each xs → Each (take n xs)
-  each_take zero xs h k = end
-  each_take (suc n) [] h k = end
-  each_take (suc n) (x ∷ xs) h zero = h zero
-  each_take (suc n) (x ∷ xs) h (suc k) = each_take n xs (λ j. h (suc j)) k
-
 -- an answer is printed in two letters at most
 abbrev Brief : ℕ → Type 0
 Brief g = length (answer_text g) ≤ 2
 
 leaf_brief : (g : ℕ) → g < 64 → Brief g
 unfolding answer_text
-leaf_brief g l = rw (ne_eqb g 254 (λ e. omega arith), ne_eqb g 255 (λ e. omega arith)) (decimal_few 1 g (omega arith))
+leaf_brief g l = rw (ne_eqb g 254 (λ e. omega arith), ne_eqb g 255 (λ e. omega arith)) (decimal_few 2 g (omega arith) (omega arith) (omega arith))
 
 idle_brief : Brief 254
 unfolding answer_text
@@ -137,8 +98,8 @@ module _ (v : View) (few : v.size ≤ 64) (passed : ℕ → Bool) where
       go (just i) e before = onward i (v.leaf i) (omega (arith, choice_below v left passed x i e)) before
 
   -- so each answer of a slot,
-  serve_brief : (supplied : ℕ) (so : SlotEnd) → Each Brief 255 unsupplied_brief so.grants → (k : ℕ) →
-      Each Brief 255 unsupplied_brief (serve_to v supplied passed so k).grants
+  serve_brief : (supplied : ℕ) (so : SlotEnd) → All Brief so.grants → (k : ℕ) →
+      All Brief (serve_to v supplied passed so k).grants
   unfolding serve_to serve_core granting
   serve_brief supplied so h zero = h
   serve_brief supplied so h (suc k) = go (bit_of supplied k) (serve_brief supplied so h k)
@@ -146,36 +107,39 @@ module _ (v : View) (few : v.size ≤ 64) (passed : ℕ → Bool) where
       before : SlotEnd
       before = serve_to v supplied passed so k
 
-      go : (b : Bool) → Each Brief 255 unsupplied_brief before.grants →
-          Each Brief 255 unsupplied_brief (cond b (granting before k (walk v passed 8 (Supply k) before.left)) before).grants
-      go true h = each_set Brief 255 unsupplied_brief before.grants k _ h (walk_brief 8 (Supply k) before.left)
+      go : (b : Bool) → All Brief before.grants →
+          All Brief (cond b (granting before k (walk v passed 8 (Supply k) before.left)) before).grants
+      go true h = All-set Brief before.grants k _ (walk_brief 8 (Supply k) before.left) h
       go false h = h
 
 slot_brief : (setting : Setting) (v : View) → v.size ≤ 64 → (cores n supplied declines : ℕ) (left : List ℕ) →
-    Each Brief 255 unsupplied_brief (slot setting v cores n supplied declines left).grants
+    All Brief (slot setting v cores n supplied declines left).grants
 unfolding slot
 slot_brief setting v few cores n supplied declines left =
     let full = refilled v n left in
-    serve_brief v few (passed_over setting v full declines) supplied (slot_start full) (λ k. rw (replicate_everywhere {A = ℕ} 8 k 255) unsupplied_brief) cores
+    serve_brief v few (passed_over setting v full declines) supplied (slot_start full) (All-replicate Brief 8 255 unsupplied_brief) cores
 
 -- and of a run
 course_brief : (v : View) → v.size ≤ 64 → (cores n : ℕ) (settings : List Setting) (supplies declines left : List ℕ) (i : ℕ) →
-    Each Brief 255 unsupplied_brief (course_to v cores n settings supplies declines left i).answers
+    All Brief (course_to v cores n settings supplies declines left i).answers
 unfolding course_to
-course_brief v few cores n settings supplies declines left zero = λ k. unsupplied_brief
+course_brief v few cores n settings supplies declines left zero = λ k d l. absurd (omega arith)
 course_brief v few cores n settings supplies declines left (suc i) =
     let so = course_to v cores n settings supplies declines left i in
     let grants = (slot (get_or settings i Off) v cores (n + i) (get_or supplies i 0) (get_or declines i 0) so.left).grants in
-    each_append Brief 255 unsupplied_brief so.answers (take cores grants) (course_brief v few cores n settings supplies declines left i)
-    (each_take Brief 255 unsupplied_brief cores grants
-    (slot_brief (get_or settings i Off) v few cores (n + i) (get_or supplies i 0) (get_or declines i 0) so.left))
+    All-append Brief so.answers (take cores grants) (course_brief v few cores n settings supplies declines left i)
+    (All-take Brief cores grants (slot_brief (get_or settings i Off) v few cores (n + i) (get_or supplies i 0) (get_or declines i 0) so.left))
 
--- so each answer that is printed is
-pub first_eight_brief : (plan : Plan) → plan.size ≤ 64 → (k : ℕ) → length (answer_text (get_or (first_eight plan) k 255)) ≤ 2
+-- so each answer that is printed is, and so is what is read past them
+pub first_eight_brief : (plan : Plan) → plan.size ≤ 64 → (k : ℕ) → Brief (get_or (first_eight plan) k 255)
 unfolding first_eight course course_by
 first_eight_brief plan few k =
     let state = (started plan).state in
-    course_brief (view_of plan) few plan.cores state.clock (replicate 8 Off) (replicate 8 255) (replicate 8 0) state.left 8 k
+    let brief = course_brief (view_of plan) few plan.cores state.clock (replicate 8 Off) (replicate 8 255) (replicate 8 0) state.left 8 in
+    elim (cases_lt k (length (first_eight plan))) [
+      | inl l ↦ brief k 255 l
+      | inr h ↦ rw (get_or_past _ k 255 h) unsupplied_brief
+    ]
 
 -- what is laid is no longer than its parts together may be
 lays_most : (f : ℕ → List ℕ) (most : ℕ → ℕ) (n : ℕ) → ((i : ℕ) → i < n → length (f i) ≤ most i) → length (lays f n) ≤ sum_to most n
@@ -197,10 +161,10 @@ module _ (s : List ℕ) (plan : Plan) (kept : Sound plan) (named : (i : ℕ) →
       let served = bounds (served_of plan i) (kept.served i l) in
       let ones = ones_at (served_of plan i) (wanted_as (kind_of plan i)) (wanted_of plan i) in
       let least = lowest_low ones (wanted_of plan i).t (turns Aligned (served_of plan i)) in
-      let d = decimal_few 0 (depth_to plan 8 i) (omega (arith, depth_most plan 8 i)) in
-      let c = decimal_few 3 (served_of plan i).c (omega arith) in
-      let t = decimal_few 3 (served_of plan i).t (omega arith) in
-      let m = decimal_few 3 (least_of plan i) (omega arith) in
+      let d = decimal_few 1 (depth_to plan 8 i) (omega arith) (omega (arith, depth_most plan 8 i)) (omega (arith, depth_most plan 8 i)) in
+      let c = decimal_few 4 (served_of plan i).c (omega arith) (omega arith) (omega arith) in
+      let t = decimal_few 4 (served_of plan i).t (omega arith) (omega arith) (omega arith) in
+      let m = decimal_few 4 (least_of plan i) (omega arith) (omega arith) (omega arith) in
       simp length-append (omega (arith, named i l))
 
   -- each answer with the space before it
@@ -211,8 +175,9 @@ module _ (s : List ℕ) (plan : Plan) (kept : Sound plan) (named : (i : ℕ) →
   slot_most : (n : ℕ) → n < 8 → length (slot_line plan (first_eight plan) n) ≤ 39
   unfolding slot_line sum_to
   slot_most n l =
-      let number = decimal_few 0 n (omega arith) in
-      let start = decimal_few 6 (begins plan.tick n) (omega (arith, begins_most plan.tick n kept.tick l)) in
+      let number = decimal_few 1 n (omega arith) (omega arith) (omega arith) in
+      let early = begins_most plan.tick n kept.tick l in
+      let start = decimal_few 7 (begins plan.tick n) (omega arith) (omega arith) (omega arith) in
       let few : sum_to (λ i. 3) plan.cores ≤ 24 = sum_grows (λ i. 3) plan.cores 8 kept.eight_cores in
       let parts = lays_most (answer_part (first_eight plan) plan.cores n) (λ i. 3) plan.cores (part_most n) in
       simp length-append (omega arith)
@@ -221,7 +186,7 @@ module _ (s : List ℕ) (plan : Plan) (kept : Sound plan) (named : (i : ℕ) →
   pub accepted_most : length (accepted_text s plan) ≤ 3708
   unfolding accepted_text sum_to node_most decimal digits
   accepted_most =
-      let size = decimal_few 1 plan.size (omega (arith, kept.sixty_four_nodes)) in
+      let size = decimal_few 2 plan.size (omega arith) (omega (arith, kept.sixty_four_nodes)) (omega (arith, kept.sixty_four_nodes)) in
       let nodes = lays_most (node_line s plan) node_most plan.size node_most_lem in
       let most : sum_to node_most plan.size ≤ 3382 = sum_grows node_most plan.size 64 kept.sixty_four_nodes in
       let slots : length (lays (slot_line plan (first_eight plan)) 8) ≤ 312 = lays_most (slot_line plan (first_eight plan)) (λ n. 39) 8 slot_most in

@@ -1,5 +1,5 @@
 -- What is promised of a listing. Why each holds is in proofs/. Assumes nothing.
-use Rattle.std.specs.Prelude.{ℕ, ◌+◌, ◌*◌, ◌-◌, ◌^◌, ◌≤◌, ◌<◌, List, [], ◌∷◌, ◌≡◌, length, get_or, take}
+use Rattle.std.specs.Prelude.{ℕ, ◌+◌, ◌*◌, ◌-◌, ◌^◌, ◌≤◌, ◌<◌, List, [], ◌∷◌, ◌≡◌, length, get_or, take, Result}
 use Rattle.meaning.specs.declared.Kind.TheVariants.{Aligned}
 use Rattle.types.specs.Promises.{LeastOf}
 use Rattle.plans.specs.Plan.{There, kind_of, wanted_of, served_of, wanted_as}
@@ -7,7 +7,7 @@ use Rattle.plans.specs.Sound.{Sound, Depth}
 use Rattle.plans.specs.declared.Plan.{Plan}
 use Rattle.layout.specs.Promises.{Bytes}
 use Rattle.listing.specs.Text.{decimal, depth_of, least_of, text, said}
-use Rattle.listing.specs.declared.Listed.{Listed}
+use Rattle.listing.specs.declared.Short.{Short}
 
 -- 3,708 bytes always suffice
 abbrev pub Suffices : Type 0
@@ -40,7 +40,7 @@ LeastPrinted =
 
 -- two answers that say the same are the same
 abbrev pub OneListing : Type 0
-OneListing = (a b : Listed) → said a ≡ said b → a ≡ b
+OneListing = (a b : Result ℕ Short) → said a ≡ said b → a ≡ b
 
 -- A longer file is listed as its first part is: what stands beyond byte 3,061 changes nothing.
 abbrev pub LongerListed : Type 0

@@ -1,10 +1,9 @@
 -- The text that `busplan` prints, as bytes: document 01, "Decisions to check against", last part. Assumes nothing.
-use Rattle.std.specs.Prelude.{ℕ, zero, suc, ◌+◌, ◌*◌, ◌/◌, ◌%◌, cond, List, [], ◌∷◌, ◌++◌, ltb, leb, eqb, length, get_or, drop, replicate}
+use Rattle.std.specs.Prelude.{ℕ, zero, suc, ◌+◌, ◌*◌, ◌/◌, ◌%◌, cond, List, [], ◌∷◌, ◌++◌, ltb, leb, eqb, length, get_or, drop, replicate, Result, Ok, Err}
 use Rattle.ticks.specs.Times.{begins}
 use Rattle.meaning.specs.declared.Kind.TheVariants.{Aligned}
 use Rattle.types.specs.Least.{least_ones}
-use Rattle.answers.specs.declared.Answer.{Answer}
-use Rattle.answers.specs.declared.Answer.TheVariants.{Accepted, Refused}
+use Rattle.answers.specs.Answers.{Answer, Accepted, Refused}
 use Rattle.plans.specs.Plan.{parent_of, kind_of, wanted_of, served_of, wanted_as}
 use Rattle.plans.specs.declared.Parent.{Parent}
 use Rattle.plans.specs.declared.Parent.TheVariants.{Supply, Node as Under}
@@ -14,8 +13,7 @@ use Rattle.layout.specs.Layout.{lays}
 use Rattle.dispatch.specs.Run.{started, course}
 use Rattle.dispatch.specs.Slot.{idle, unsupplied}
 use Rattle.dispatch.specs.declared.Setting.TheVariants.{Off}
-use Rattle.listing.specs.declared.Listed.{Listed}
-use Rattle.listing.specs.declared.Listed.TheVariants.{Written, Short}
+use Rattle.listing.specs.declared.Short.{Short}
 
 -- a number in decimal, with no zeros in front; twenty digits hold every 64-bit number
 unfoldable pub digits : ℕ → ℕ → List ℕ
@@ -106,9 +104,9 @@ pub data Said : Type 0 where
   wrote : ℕ → Said
   refused : ℕ → Said
 
-abbrev pub said : Listed → Said
-said (Written n) = wrote n
-said Short = refused 17
+abbrev pub said : Result ℕ Short → Said
+said (Ok n) = wrote n
+said (Err _) = refused 17
 
 -- the text, where there is room for it; else 17, and nothing is written
 unfoldable pub listed : List ℕ → ℕ → Said

@@ -2,86 +2,58 @@
 // slots; a refused plan's text is one line. specs/Text.antt says it byte by byte.
 #![tactic(auto)]
 
-ghost use Rattle.std.specs.Prelude.{◌≡◌, true, ◌++◌, ◌≤◌, leb, length, take, drop};
-ghost use Rattle.rules.specs.Check.{is_fit};
-ghost use Rattle.listing.specs.Text.{accepted_text, refused_text, text, said, listed, out_after};
-ghost use Rattle.listing.specs.Page.{Put};
+ghost use Rattle.std.specs.Prelude.{◌≡◌, ◌≤◌, length, IfOk};
+ghost use Rattle.answers.specs.Answers.{number_of, place_in, spot};
+ghost use Rattle.listing.specs.Text.{refused_text, text, said, listed, out_after};
 
+mod accepted;
 mod nodes;
-mod pieces;
+mod page;
 mod slots;
 
-use answers::Answer;
-use plans::Plan;
+use accepted::Accepted;
+use answers::Refusal;
+use page::Page;
 
-// The length of the text that was written, or there was too little room: `said` of specs/Text.antt.
-#[derive(Clone, Copy)]
-pub enum Listed {
-    Written(usize),
-    Short,
-}
+// There is too little room for the text.
+#[derive(Clone, Copy, Debug, PartialEq, Eq)]
+pub struct Short;
 
-// Writes the text of a plan to the front of `out`, where there is room for it.
-pub fn list(bytes: &[u8], out: &mut [u8]) -> Listed
+// Writes the text of a plan to the front of `out`, where there is room for it, and answers its length: `said` of specs/Text.antt.
+#[tactic(auto, using(crate::proofs::Texts::by_room))]
+pub fn list(bytes: &[u8], out: &mut [u8]) -> Result<usize, Short>
     ensures answer { said result ≡ listed bytes.now (length out.old) }
     ensures buffer { out.new ≡ out_after bytes.now out.old }
+    ensures within { IfOk result (λ n. n ≤ length out.new) }
 {
-    let mut page = [0u8; 4096];
-    let n = put_text(&mut page, bytes);
-    if !has_room(n, out.len()) {
-        return Listed::Short;
+    let page = page_of(bytes);
+    let text = page.written();
+    let n = text.len();
+    if out.len() < n {
+        return Err(Short);
     }
-    copy(page, n, out);
-    Listed::Written(n)
+    out[..n].copy_from_slice(text);
+    Ok(n)
 }
 
-// Whether n bytes fit into a room.
-fn has_room(n: usize, room: usize) -> bool
-    ensures { result ≡ leb n room }
+// The whole text, which always fits on a page.
+fn page_of(bytes: &[u8]) -> Page
+    ensures { result ≡ text bytes.now }
 {
-    n <= room
-}
-
-// The first n bytes of a page, at the front of `out`.
-fn copy(page: [u8; 4096], n: usize, out: &mut [u8])
-    requires { (n ≤ 4096) × (n ≤ length out.old) }
-    ensures { out.new ≡ take n page ++ drop n out.old }
-{
-    let mut i: usize = 0;
-    while i < n {
-        out[i] = page[i];
-        i += 1;
+    match reader::read(bytes) {
+        Ok(plan) => Accepted { plan }.page(bytes),
+        Err(refusal) => refused(refusal),
     }
 }
 
-// The whole text, at the front of a page: it always fits.
-fn put_text(page: &mut [u8; 4096], bytes: &[u8]) -> usize
-    ensures { Put page.old 0 (text bytes.now) result page.new }
+// Number and place of a refusal; where it has none, the number that stands for that.
+#[tactic(auto, using(crate::proofs::Pages::joined, crate::proofs::Sizes::decimal_most), unfolding(crate::specs::Text::refused_text))]
+fn refused(refusal: Refusal) -> Page
+    ensures { result ≡ refused_text (number_of refusal) (spot (place_in refusal)) }
 {
-    let reading = reader::read(bytes);
-    let answer = reading.answer;
-    match answer {
-        Answer::Accepted => put_accepted(page, bytes, reading.plan),
-        Answer::Refused { number, place } => put_refused(page, number, place),
-    }
-}
-
-// Node count, node lines and slot lines.
-fn put_accepted(page: &mut [u8; 4096], bytes: &[u8], plan: Plan) -> usize
-    requires { (is_fit plan ≡ true) × (length (accepted_text bytes.now plan) ≤ 4096) }
-    ensures { Put page.old 0 (accepted_text bytes.now plan) result page.new }
-{
-    let next = pieces::put(page, 0, b"accepted ");
-    let next = pieces::put_marked(page, next, plan.size as u64, b'\n');
-    let next = nodes::put_nodes(page, next, bytes, plan);
-    slots::put_slots(page, next, plan)
-}
-
-// Number and place of a refusal.
-fn put_refused(page: &mut [u8; 4096], number: u8, place: usize) -> usize
-    ensures { Put page.old 0 (refused_text number place) result page.new }
-{
-    let next = pieces::put(page, 0, b"refused ");
-    let next = pieces::put_marked(page, next, number as u64, b' ');
-    pieces::put_marked(page, next, place as u64, b'\n')
+    let mut page = Page::blank();
+    page.put(b"refused ");
+    page.put_marked(refusal.number() as u64, b' ');
+    page.put_marked(refusal.place().unwrap_or(usize::MAX) as u64, b'\n');
+    page
 }

@@ -1,62 +1,69 @@
 // The node lines: number, name, depth, served type, least ones in a wanted window.
-ghost use Rattle.std.specs.Prelude.{◌≡◌, true, ◌++◌, ◌+◌, ◌<◌, ◌≤◌, length};
-ghost use Rattle.plans.specs.Plan.{served_of};
-ghost use Rattle.plans.specs.Sound.{sound};
+ghost use Rattle.std.specs.Prelude.{◌≡◌, ◌++◌, ◌<◌};
 ghost use Rattle.layout.specs.Layout.{lays};
 ghost use Rattle.listing.specs.Text.{decimal, space, slash, depth_of, least_of, node_line};
-ghost use Rattle.listing.specs.Page.{Put};
+ghost use Rattle.listing.specs.Page.{OnPage};
 
-use crate::pieces;
+use crate::accepted::Accepted;
+use crate::page::Page;
 use meaning::{Kind, SlotType};
 use plans::{Parent, Plan};
 use types::Verdict;
 
-// A line for each node.
-pub fn put_nodes(page: &mut [u8; 4096], at: usize, s: &[u8], plan: Plan) -> usize
-    requires { (sound plan ≡ true) × (at + length (lays (node_line s.now plan) plan.size) ≤ 4096) }
-    ensures { Put page.old at (lays (node_line s.now plan) plan.size) result page.new }
-{
-    let size = plan.size;
-    let mut next = at;
-    let mut i: usize = 0;
-    while i < size {
-        next = put_node(page, next, s, plan, i);
-        i += 1;
+impl Accepted {
+    // A line for each node.
+    #[tactic(auto, using(crate::proofs::Pages::joined), unfolding(layout::specs::Layout::lays))]
+    pub fn put_nodes(self, page: &mut Page, s: &[u8])
+        requires { OnPage (page.old ++ lays (node_line s.now self.plan) self.plan.size) }
+        ensures { page.new ≡ page.old ++ lays (node_line s.now self.plan) self.plan.size }
+    {
+        for i in 0..self.plan.size {
+            self.put_node(page, s, i);
+        }
     }
-    next
-}
 
-fn put_node(page: &mut [u8; 4096], at: usize, s: &[u8], plan: Plan, i: usize) -> usize
-    requires { ((sound plan ≡ true) × (i < plan.size)) × (at + length (node_line s.now plan i) ≤ 4096) }
-    ensures { Put page.old at (node_line s.now plan i) result page.new }
-{
-    let name = reader::name(s, i);
-    let depth = depth_of(plan, i);
-    let served = served_of(plan, i);
-    let least = least_of(plan, i);
-    let next = put_head(page, at, i, name);
-    let next = pieces::put_marked(page, next, depth, b' ');
-    let next = put_type(page, next, served);
-    pieces::put_marked(page, next, least as u64, b'\n')
+    #[tactic(auto, using(crate::proofs::Pages::joined), unfolding(crate::specs::Text::node_line))]
+    fn put_node(self, page: &mut Page, s: &[u8], i: usize)
+        requires there { i < self.plan.size }
+        requires room { OnPage (page.old ++ node_line s.now self.plan i) }
+        ensures { page.new ≡ page.old ++ node_line s.now self.plan i }
+    {
+        put_head(page, i, reader::name(s, i));
+        page.put_marked(depth_of(self.plan, i), b' ');
+        put_type(page, plans::node_at(self.plan, i).served);
+        page.put_marked(self.least_of(i) as u64, b'\n');
+    }
+
+    // The least ones that node i has in a wanted window. Its types are well formed, so the verdict is no refusal.
+    fn least_of(self, i: usize) -> u16
+        requires { i < self.plan.size }
+        ensures { result ≡ least_of self.plan i }
+    {
+        let node = plans::node_at(self.plan, i);
+        let kind = plans::wanted_as(node.kind);
+        match types::judge(Kind::Aligned, node.served, kind, node.wanted).unwrap() {
+            Verdict::Holds(ones) | Verdict::Short(ones) => ones,
+        }
+    }
 }
 
 // Number and name.
-fn put_head(page: &mut [u8; 4096], at: usize, i: usize, name: &[u8]) -> usize
-    requires { at + length ((decimal i ++ space) ++ (name.now ++ space)) ≤ 4096 }
-    ensures { Put page.old at ((decimal i ++ space) ++ (name.now ++ space)) result page.new }
+fn put_head(page: &mut Page, i: usize, name: &[u8])
+    requires { OnPage (page.old ++ (decimal i ++ space ++ name.now ++ space)) }
+    ensures { page.new ≡ page.old ++ (decimal i ++ space ++ name.now ++ space) }
 {
-    let next = pieces::put_marked(page, at, i as u64, b' ');
-    let next = pieces::put(page, next, name);
-    pieces::put_byte(page, next, b' ')
+    page.put_marked(i as u64, b' ');
+    page.put(name);
+    page.put_byte(b' ');
 }
 
 // C and T.
-fn put_type(page: &mut [u8; 4096], at: usize, a: SlotType) -> usize
-    requires { at + length ((decimal a.c ++ slash) ++ (decimal a.t ++ space)) ≤ 4096 }
-    ensures { Put page.old at ((decimal a.c ++ slash) ++ (decimal a.t ++ space)) result page.new }
+fn put_type(page: &mut Page, a: SlotType)
+    requires { OnPage (page.old ++ (decimal a.c ++ slash ++ decimal a.t ++ space)) }
+    ensures { page.new ≡ page.old ++ (decimal a.c ++ slash ++ decimal a.t ++ space) }
 {
-    let next = pieces::put_marked(page, at, a.c as u64, b'/');
-    pieces::put_marked(page, next, a.t as u64, b' ')
+    page.put_marked(a.c as u64, b'/');
+    page.put_marked(a.t as u64, b' ');
 }
 
 // How many steps up lead from node i to a supply.
@@ -64,43 +71,11 @@ fn depth_of(plan: Plan, i: usize) -> u64
     ensures { result ≡ depth_of plan i }
 {
     let mut at = i;
-    let mut depth: u64 = 0;
-    while depth < 8 {
-        depth += 1;
-        let parent = plans::node_at(plan, at).parent;
-        match parent {
-            Parent::Supply(_) => return depth,
-            Parent::Node(h) => at = basics::wide(h),
+    for steps in 0..8 {
+        match plans::node_at(plan, at).parent {
+            Parent::Supply(_) => return steps + 1,
+            Parent::Node(h) => at = usize::from(h),
         }
     }
-    depth
-}
-
-// The served type of node i.
-fn served_of(plan: Plan, i: usize) -> SlotType
-    ensures { result ≡ served_of plan i }
-{
-    plans::node_at(plan, i).served
-}
-
-// The least ones that node i has in a wanted window.
-fn least_of(plan: Plan, i: usize) -> u16
-    requires { (sound plan ≡ true) × (i < plan.size) }
-    ensures { result ≡ least_of plan i }
-{
-    let node = plans::node_at(plan, i);
-    let kind = node.kind;
-    match types::judge(
-        Kind::Aligned,
-        node.served,
-        plans::wanted_as(kind),
-        node.wanted,
-    ) {
-        Verdict::Holds(ones) => ones,
-        Verdict::Short(ones) => ones,
-        Verdict::Refused {
-            number: _,
-            place: _,
-        } => 0,
-    }
+    8
 }

@@ -1,105 +1,92 @@
 // The lines of the first eight slots, all cores supplied and nobody declining: number, start, and per supply the leaf, `-` idle or `x` not supplied.
-ghost use Rattle.std.specs.Prelude.{◌≡◌, true, ◌∷◌, ◌++◌, ◌+◌, ◌*◌, ◌<◌, ◌≤◌, length, drop};
-ghost use Rattle.ticks.specs.Times.{is_fit as is_fit_tick, begins};
-ghost use Rattle.plans.specs.Sound.{sound};
-ghost use Rattle.rules.specs.Check.{is_fit};
+ghost use Rattle.std.specs.Prelude.{◌≡◌, ◌++◌, ◌*◌, ◌<◌, length};
+ghost use Rattle.ticks.specs.Times.{begins};
 ghost use Rattle.layout.specs.Layout.{lays};
-ghost use Rattle.listing.specs.Text.{first_eight, answer_text, answer_part, slot_line};
-ghost use Rattle.listing.specs.Page.{Put};
+ghost use Rattle.listing.specs.Text.{space, first_eight, answer_text, answer_part, slot_line};
+ghost use Rattle.listing.specs.Page.{OnPage};
 
-use crate::pieces;
+use crate::accepted::Accepted;
+use crate::page::Page;
 use dispatch::Setting;
-use plans::Plan;
-use ticks::{Answer, Tick};
 
-// A line for each of the first eight slots.
-pub fn put_slots(page: &mut [u8; 4096], at: usize, plan: Plan) -> usize
-    requires { (is_fit plan ≡ true) × (at + length (lays (slot_line plan (first_eight plan)) 8) ≤ 4096) }
-    ensures { Put page.old at (lays (slot_line plan (first_eight plan)) 8) result page.new }
-{
-    let mut grants = [255u8; 64];
-    give(plan, &mut grants);
-    put_lines(page, at, plan, grants)
-}
-
-// The answers of the first eight slots from a fresh start, slot by slot, with the switch off.
-fn give(plan: Plan, grants: &mut [u8; 64])
-    requires { is_fit plan ≡ true }
-    ensures { grants.new ≡ first_eight plan ++ drop (8 * plan.cores) grants.old }
-{
-    let fresh = dispatch::fresh(plan);
-    dispatch::run(Setting::Off, plan, fresh.state, &[255; 8], &[0; 8], grants);
-}
-
-fn put_lines(page: &mut [u8; 4096], at: usize, plan: Plan, grants: [u8; 64]) -> usize
-    requires { (sound plan ≡ true) × (at + length (lays (slot_line plan grants) 8) ≤ 4096) }
-    ensures { Put page.old at (lays (slot_line plan grants) 8) result page.new }
-{
-    let mut next = at;
-    let mut n: usize = 0;
-    while n < 8 {
-        next = put_slot(page, next, plan, grants, n);
-        n += 1;
+impl Accepted {
+    // A line for each of the first eight slots.
+    #[tactic(auto, using(crate::proofs::Pages::joined, crate::proofs::SlotLines::length_first_eight), unfolding(layout::specs::Layout::lays))]
+    pub fn put_slots(self, page: &mut Page)
+        requires { OnPage (page.old ++ lays (slot_line self.plan (first_eight self.plan)) 8) }
+        ensures { page.new ≡ page.old ++ lays (slot_line self.plan (first_eight self.plan)) 8 }
+    {
+        let mut room = [0; 64];
+        let grants = &mut room[..8 * self.plan.cores];
+        self.give(grants);
+        for n in 0..8 {
+            self.put_slot(page, grants, n);
+        }
     }
-    next
-}
 
-fn put_slot(page: &mut [u8; 4096], at: usize, plan: Plan, grants: [u8; 64], n: usize) -> usize
-    requires { ((sound plan ≡ true) × (n < 8)) × (at + length (slot_line plan grants n) ≤ 4096) }
-    ensures { Put page.old at (slot_line plan grants n) result page.new }
-{
-    let start = start_of(plan.tick, n);
-    let next = pieces::put(page, at, b"slot ");
-    let next = pieces::put_marked(page, next, n as u64, b' ');
-    let next = pieces::put_number(page, next, start);
-    let next = put_parts(page, next, grants, plan.cores, n);
-    pieces::put_byte(page, next, b'\n')
-}
+    // The answers of the first eight slots from a fresh start, slot by slot, with the switch off.
+    fn give(self, grants: &mut [u8])
+        requires { length grants.old ≡ 8 * self.plan.cores }
+        ensures { grants.new ≡ first_eight self.plan }
+    {
+        let mut state = dispatch::fresh(self.plan).unwrap();
+        dispatch::run(
+            Setting::Off,
+            self.plan,
+            &mut state,
+            &[255; 8],
+            &[0; 8],
+            grants,
+        )
+        .unwrap();
+    }
 
-// When slot n begins.
-fn start_of(tick: Tick, n: usize) -> u64
-    requires { (is_fit_tick tick ≡ true) × (n < 8) }
-    ensures { result ≡ begins tick n }
-{
-    match ticks::start(tick, n as u64) {
-        Answer::Number(start) => start,
-        Answer::Beyond => 0,
-        Answer::Unfit => 0,
+    #[tactic(auto, using(crate::proofs::Pages::joined), unfolding(crate::specs::Text::slot_line))]
+    fn put_slot(self, page: &mut Page, grants: &[u8], n: usize)
+        requires few { n < 8 }
+        requires given { length grants.now ≡ 8 * self.plan.cores }
+        requires room { OnPage (page.old ++ slot_line self.plan grants.now n) }
+        ensures { page.new ≡ page.old ++ slot_line self.plan grants.now n }
+    {
+        page.put(b"slot ");
+        page.put_marked(n as u64, b' ');
+        page.put_number(self.start_of(n));
+        put_answers(page, grants, self.plan.cores, n);
+        page.put_byte(b'\n');
+    }
+
+    // When slot n begins, which is early enough to be no refusal.
+    fn start_of(self, n: usize) -> u64
+        requires { n < 8 }
+        ensures { result ≡ begins self.plan.tick n }
+    {
+        ticks::start(self.plan.tick, n as u64).unwrap()
     }
 }
 
 // The answers of slot n, one for each core.
-fn put_parts(page: &mut [u8; 4096], at: usize, grants: [u8; 64], cores: usize, n: usize) -> usize
-    requires { ((cores ≤ 8) × (n < 8)) × (at + length (lays (answer_part grants cores n) cores) ≤ 4096) }
-    ensures { Put page.old at (lays (answer_part grants cores n) cores) result page.new }
+#[tactic(auto, using(crate::proofs::Pages::joined, crate::proofs::SlotLines::length_of_slot, crate::proofs::SlotLines::part_is), unfolding(layout::specs::Layout::lays))]
+fn put_answers(page: &mut Page, grants: &[u8], cores: usize, n: usize)
+    requires few { n < 8 }
+    requires given { length grants.now ≡ 8 * cores }
+    requires room { OnPage (page.old ++ lays (answer_part grants.now cores n) cores) }
+    ensures { page.new ≡ page.old ++ lays (answer_part grants.now cores n) cores }
 {
-    let mut next = at;
-    let mut s: usize = 0;
-    while s < cores {
-        next = put_part(page, next, grants[n * cores + s]);
-        s += 1;
+    for grant in &grants[n * cores..(n + 1) * cores] {
+        put_answer(page, *grant);
     }
-    next
 }
 
 // One answer, behind a space.
-fn put_part(page: &mut [u8; 4096], at: usize, grant: u8) -> usize
-    requires { at + length (32 ∷ answer_text grant) ≤ 4096 }
-    ensures { Put page.old at (32 ∷ answer_text grant) result page.new }
+#[tactic(auto, using(crate::proofs::Pages::joined), unfolding(crate::specs::Text::answer_text))]
+fn put_answer(page: &mut Page, grant: u8)
+    requires { OnPage (page.old ++ (space ++ answer_text grant)) }
+    ensures { page.new ≡ page.old ++ (space ++ answer_text grant) }
 {
-    let next = pieces::put_byte(page, at, b' ');
-    put_answer(page, next, grant)
-}
-
-fn put_answer(page: &mut [u8; 4096], at: usize, grant: u8) -> usize
-    requires { at + length (answer_text grant) ≤ 4096 }
-    ensures { Put page.old at (answer_text grant) result page.new }
-{
-    if grant == 254 {
-        return pieces::put_byte(page, at, b'-');
+    page.put_byte(b' ');
+    match grant {
+        254 => page.put_byte(b'-'),
+        255 => page.put_byte(b'x'),
+        leaf => page.put_number(leaf as u64),
     }
-    if grant == 255 {
-        return pieces::put_byte(page, at, b'x');
-    }
-    pieces::put_number(page, at, grant as u64)
 }

@@ -1,9 +1,9 @@
--- Well formed, and within range, as a test and as bounds: each way to a no and the one to a yes, and back. Assumes nothing.
-use Prim.Native.Nat.{ℕ, ◌≤◌, ◌<◌}
-use mathlib.Core.Bool.{true, false, ◌&&◌, and-eq-true_iff}
+-- Well formed, and within range, as a test and as bounds, each way. Assumes nothing.
+use Prim.Native.Nat.{ℕ, ◌≤◌}
+use mathlib.Core.Bool.{true, ◌&&◌, and-eq-true_iff}
 use mathlib.Core.Path.{◌≡◌}
 use lib.Dec.{leb}
-use borrow.Author.Tests.{le-leb, lt-leb, leb-true}
+use borrow.Author.Tests.{le-leb, leb-true}
 use Rattle.meaning.specs.Types.{ranged, well_formed}
 use Rattle.meaning.specs.Soft.{within_range}
 use Rattle.meaning.specs.declared.SlotType.{SlotType}
@@ -22,15 +22,6 @@ pub record MissBounds (m : Misses) : Type 0 where
   pub fits : m.d ≤ m.w
 
 module _ (c t most : ℕ) where
-  pub no_period : t < 1 → false ≡ ranged c t most
-  no_period h = rw (lt-leb 1 t h)
-
-  pub long_period : 1 ≤ t → most < t → false ≡ ranged c t most
-  long_period h l = rw (le-leb 1 t h, lt-leb t most l)
-
-  pub by_count : 1 ≤ t → t ≤ most → leb c t ≡ ranged c t most
-  by_count h l = rw (le-leb 1 t h, le-leb t most l)
-
   -- in range as three bounds, and back
   ranged_bounds : ranged c t most ≡ true → (1 ≤ t) × (t ≤ most) × (c ≤ t)
   ranged_bounds e =

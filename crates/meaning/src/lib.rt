@@ -9,34 +9,36 @@ ghost use Rattle.meaning.specs.Types.{ranged, well_formed};
 ghost use Rattle.meaning.specs.Soft.{within_range};
 
 // C slots in T. The numbers may be anything that sixteen bits hold.
-#[derive(Clone, Copy)]
+#[derive(Clone, Copy, Debug, PartialEq, Eq)]
 pub struct SlotType {
     pub c: u16,
     pub t: u16,
 }
 
 // Misses allowed: D of every W wanted windows. The numbers may be anything that sixteen bits hold.
-#[derive(Clone, Copy)]
+#[derive(Clone, Copy, Debug, PartialEq, Eq)]
 pub struct Misses {
     pub d: u16,
     pub w: u16,
 }
 
 // Aligned: windows start at multiples of T (the paper's weak). Sliding: windows start anywhere (its strong).
-#[derive(Clone, Copy)]
+#[derive(Clone, Copy, Debug, PartialEq, Eq)]
 pub enum Kind {
     Aligned,
     Sliding,
 }
 
 // Whether a type is well formed.
+#[tactic(auto, unfolding(crate::specs::Types::well_formed))]
 pub fn is_well_formed(a: SlotType) -> bool
     ensures { result ≡ well_formed a }
 {
     is_ranged(a.c, a.t, 4096)
 }
 
-// Whether D and W are within their range.
+// Whether D and W are within their range: the twin of the call above, since the documents name the two pairs of numbers apart.
+#[tactic(auto, unfolding(crate::specs::Soft::within_range))]
 pub fn is_within_range(m: Misses) -> bool
     ensures { result ≡ within_range m }
 {
@@ -47,11 +49,5 @@ pub fn is_within_range(m: Misses) -> bool
 fn is_ranged(c: u16, t: u16, most: u16) -> bool
     ensures { result ≡ ranged c t most }
 {
-    if t < 1 {
-        return false;
-    }
-    if most < t {
-        return false;
-    }
-    c <= t
+    1 <= t && t <= most && c <= t
 }

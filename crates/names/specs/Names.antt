@@ -1,7 +1,6 @@
 -- The names of a plan file: document 01, "The plan file", part 4, with refusals 1, 2, 8 and 9 there. Assumes nothing.
 use Rattle.std.specs.Prelude.{ℕ, suc, ◌+◌, Bool, not, ◌&&◌, List, leb, eqb}
-use Rattle.answers.specs.Answers.{first, test, each}
-use Rattle.answers.specs.declared.Answer.{Answer}
+use Rattle.answers.specs.Answers.{Answer, first, test, each}
 use Rattle.plans.specs.Sound.{all}
 use Rattle.fields.specs.Fields.{byte_at, there}
 use Rattle.decode.specs.Positions.{size_of, names_at, name_start}

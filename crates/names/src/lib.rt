@@ -2,25 +2,21 @@
 #![tactic(auto)]
 
 ghost use Rattle.std.specs.Prelude.{◌≡◌, ◌+◌, ◌*◌, ◌≤◌, min};
-ghost use Rattle.answers.specs.Answers.{each};
+ghost use Rattle.answers.specs.Answers.{answered};
 ghost use Rattle.decode.specs.Positions.{size_of, name_start, end_at};
-ghost use Rattle.names.specs.Names.{is_length, letter_at, check_letter, same_name, is_new, check_name, check_names};
+ghost use Rattle.names.specs.Names.{letter_at, check_letter, same_name, is_new, check_name, check_names};
 
-use answers::Answer;
+use answers::{Refusal, Rule};
 
 // Where name i begins, with its length byte; past the last name, where the names end.
 pub fn start_of(s: &[u8], i: usize) -> usize
     ensures { (result ≡ name_start s.now (min i (size_of s.now))) × (result ≤ 69890) }
 {
-    let size = decode::size_of(s);
-    if i < size {
-        start_at(s, i)
-    } else {
-        start_at(s, size)
-    }
+    start_at(s, i.min(decode::size_of(s)))
 }
 
 // Where the last name ends.
+#[tactic(auto, unfolding(decode::specs::Positions::end_at))]
 pub fn end_at(s: &[u8]) -> usize
     ensures { result ≡ end_at s.now }
 {
@@ -28,89 +24,36 @@ pub fn end_at(s: &[u8]) -> usize
 }
 
 // The names' count, and then each name.
-pub fn check_names(s: &[u8]) -> Answer
-    ensures { result ≡ check_names s.now }
+#[tactic(auto, unfolding(crate::specs::Names::check_names, answers::specs::Answers::first))]
+pub fn check_names(s: &[u8]) -> Result<(), Refusal>
+    ensures { answered result ≡ check_names s.now }
 {
     let k = decode::names_at(s);
     let size = decode::size_of(s);
-    let count = fields::byte_at(s, k) as usize;
-    let there = fields::is_there(s, k, 1);
-    let Answer::Accepted = there else {
-        return there;
-    };
-    let same = answers::tested(count == size, 2, k);
-    let Answer::Accepted = same else {
-        return same;
-    };
-    check_each(s, size)
+    fields::is_there(s, k, 1)?;
+    answers::tested(usize::from(fields::byte_at(s, k)) == size, Rule::Count, k)?;
+    answers::each(size, |i| check_name(s, i))
 }
 
-fn check_each(s: &[u8], n: usize) -> Answer
-    requires { n ≤ 255 }
-    ensures { result ≡ each (check_name s.now) n }
-{
-    let mut i: usize = 0;
-    while i < n {
-        let a = check_name(s, i);
-        let Answer::Accepted = a else {
-            return a;
-        };
-        i += 1;
-    }
-    Answer::Accepted
-}
-
-fn check_name(s: &[u8], i: usize) -> Answer
+#[tactic(auto, unfolding(crate::specs::Names::check_name, crate::specs::Names::is_length, crate::specs::Names::check_letter, answers::specs::Answers::first))]
+fn check_name(s: &[u8], i: usize) -> Result<(), Refusal>
     requires { i ≤ 255 }
-    ensures { result ≡ check_name s.now i }
+    ensures { answered result ≡ check_name s.now i }
 {
     let k = start_at(s, i);
+    fields::is_there(s, k, 1)?;
     let length = fields::byte_at(s, k);
-    let there = fields::is_there(s, k, 1);
-    let Answer::Accepted = there else {
-        return there;
-    };
-    let fits = answers::tested(is_length(length), 8, k);
-    let Answer::Accepted = fits else {
-        return fits;
-    };
-    let letters = check_letters(s, k, length as usize);
-    let Answer::Accepted = letters else {
-        return letters;
-    };
-    answers::tested(is_new(s, i), 9, k)
+    answers::tested((1..=32).contains(&length), Rule::Name, k)?;
+    answers::each(length.into(), |j| check_letter(s, k + 1 + j))?;
+    answers::tested(is_new(s, i), Rule::NewName, k)
 }
 
-fn is_length(b: u8) -> bool
-    ensures { result ≡ is_length b }
+#[tactic(auto, unfolding(crate::specs::Names::letter_at, crate::specs::Names::is_letter, answers::specs::Answers::first))]
+fn check_letter(s: &[u8], at: usize) -> Result<(), Refusal>
+    ensures { answered result ≡ letter_at s.now at }
 {
-    basics::both(1 <= b, b <= 32)
-}
-
-fn check_letters(s: &[u8], k: usize, n: usize) -> Answer
-    requires { (k ≤ 100000) × (n ≤ 255) }
-    ensures { result ≡ each (check_letter s.now k) n }
-{
-    let mut j: usize = 0;
-    while j < n {
-        let a = check_letter(s, k + 1 + j);
-        let Answer::Accepted = a else {
-            return a;
-        };
-        j += 1;
-    }
-    Answer::Accepted
-}
-
-fn check_letter(s: &[u8], at: usize) -> Answer
-    ensures { result ≡ letter_at s.now at }
-{
-    let b = fields::byte_at(s, at);
-    let there = fields::is_there(s, at, 1);
-    let Answer::Accepted = there else {
-        return there;
-    };
-    answers::tested(basics::both(33 <= b, b <= 126), 8, at)
+    fields::is_there(s, at, 1)?;
+    answers::tested((33..=126).contains(&fields::byte_at(s, at)), Rule::Name, at)
 }
 
 // Whether name i is none of the earlier ones.
@@ -119,42 +62,27 @@ fn is_new(s: &[u8], i: usize) -> bool
     ensures { result ≡ is_new s.now i }
 {
     let k = start_at(s, i);
-    let mut j: usize = 0;
-    while j < i {
-        if is_same(s, start_at(s, j), k) {
-            return false;
-        }
-        j += 1;
-    }
-    true
+    (0..i).all(|j| !is_same(s, start_at(s, j), k))
 }
 
-// Whether the names whose length bytes stand at a and at b are the same.
+// Whether the names whose length bytes stand at a and at b are the same: byte by byte and not as slices, since bytes past the end count as 0 here.
 fn is_same(s: &[u8], a: usize, b: usize) -> bool
     requires { (a ≤ 100000) × (b ≤ 100000) }
     ensures { result ≡ same_name s.now a b }
 {
-    let n = fields::byte_at(s, a) as usize + 1;
-    let mut j: usize = 0;
-    while j < n {
-        if fields::byte_at(s, a + j) != fields::byte_at(s, b + j) {
-            return false;
-        }
-        j += 1;
-    }
-    true
+    let n = usize::from(fields::byte_at(s, a)) + 1;
+    (0..n).all(|j| fields::byte_at(s, a + j) == fields::byte_at(s, b + j))
 }
 
-// Where name i begins, for any i that a count's byte can hold.
+// Where name i begins, for any i that a count's byte can hold. A `for`, since the sum of a fold would have no bound.
+#[tactic(auto, unfolding(decode::specs::Positions::name_start))]
 fn start_at(s: &[u8], i: usize) -> usize
     requires { i ≤ 255 }
     ensures { (result ≡ name_start s.now i) × (result ≤ 4610 + 256 * i) }
 {
     let mut k = decode::names_at(s) + 1;
-    let mut j: usize = 0;
-    while j < i {
-        k = k + 1 + fields::byte_at(s, k) as usize;
-        j += 1;
+    for _ in 0..i {
+        k += 1 + usize::from(fields::byte_at(s, k));
     }
     k
 }

@@ -1,178 +1,121 @@
--- The numbers of a plan value: whether they are within their fields, and what they say. One law a return. Assumes nothing.
-use Prim.Native.Nat.{ℕ, ◌+◌, ◌-◌, ◌*◌, ◌≤◌, ◌<◌}
-use mathlib.Core.Bool.{Bool, true, false, ◌&&◌}
-use mathlib.Core.List.{List}
-use mathlib.Core.Path.{◌≡◌, sym, ◌∙◌}
+-- Numbers within their fields or not, as the code says it by an Option. Assumes nothing.
+use Prim.Native.Nat.{ℕ, zero, suc, ◌+◌, ◌-◌, ◌*◌, ◌/◌, ◌≤◌, ◌<◌}
+use mathlib.Core.Bool.{Bool, true, false}
+use mathlib.Core.List.{List, []}
+use mathlib.Core.Path.{◌≡◌, refl, sym, ap, ◌∙◌}
+use Rattle.std.proofs.Math.Nat.{mul-suc}
 use native.Mathlib.Omega.{arith}
-use lib.Dec.{leb, eqb}
-use lib.ListN.{length, get_or, replicate}
-use borrow.Author.Tests.{leb-true, lt-ltb, le-ltb, eq-eqb, ne_eqb, eqb-true}
-use mir.Syntax.{w8, w16}
-use mir.Val.{Fits}
+use lib.ListN.{length, get_or, set, take, drop, length-drop}
+use lib.Seq.{length-take-le}
+use Rattle.std.specs.Prelude.{Option, Some, None}
 use Rattle.meaning.specs.declared.SlotType.{SlotType}
-use Rattle.meaning.specs.declared.Misses.{Misses}
-use Rattle.plans.specs.Plan.{zero_type, zero_node, zero_plan}
-use Rattle.plans.specs.Sound.{all}
-use Rattle.plans.specs.declared.NodeKind.{NodeKind}
-use Rattle.plans.specs.declared.Parent.{Parent}
-use Rattle.plans.specs.declared.Parent.TheVariants.{Supply, Node as Under}
 use Rattle.plans.specs.declared.Node.{Node}
-use Rattle.plans.specs.declared.Plan.{Plan}
-use Rattle.plans.proofs.All.{left_true, right_true, all_true_at}
-use Rattle.decode.specs.Decode.{kind_named, parent_of_byte, filled}
+use Rattle.std.specs.Simd.{first_chunks}
+use Rattle.std.proofs.lemmas.List.{get_or-drop, get_or-take, get_or_default}
+use Rattle.plans.specs.Sound.{all}
+use Rattle.plans.proofs.All.{all_stop, all_more, all_done}
+use Rattle.decode.specs.Decode.{filled}
+use Rattle.decode.proofs.Filled.{filled_more, filled_done}
 use Rattle.numbers.specs.Numbers.{
   is_pair,
   is_node,
-  is_supply_at,
-  is_node_at,
-  is_plan,
   supply_place,
   node_place,
+  is_supply_at,
+  is_node_at,
   type_from,
   misses_from,
   node_from,
   supply_in,
   node_in,
-  plan_in,
-  plan_of_numbers,
+  where_fit,
 }
 
-module _ (b : ℕ) where
-  -- a parent number below 128 is a supply's
-  pub supply_numbered : b < 128 → Supply b ≡ parent_of_byte b
-  unfolding parent_of_byte
-  supply_numbered h = rw (lt-ltb b 128 h)
+module _ {A : Type 0} where
+  -- a value is handed out where they are,
+  pub fit_some : (b : Bool) (x y : A) → where_fit b x ≡ Some y → (b ≡ true) × (x ≡ y)
+  fit_some true x y e = grind arith
+  fit_some false x y e = absurd (cc)
 
-  -- and any other a node's
-  pub node_numbered : 128 ≤ b → Under (b - 128) ≡ parent_of_byte b
-  unfolding parent_of_byte
-  node_numbered h = rw (le-ltb b 128 h)
+  -- and none where they are not
+  pub fit_none : (b : Bool) (x : A) → where_fit b x ≡ None → b ≡ false
+  fit_none true x e = absurd (cc)
+  fit_none false x e = refl
 
--- whether numbers are within a node's fields: its kind's and its parent's, and those of its three pairs
-module _ (xs : List ℕ) (k : ℕ) where
-  pub node_tests : (r a d : Bool) → r ≡ (a && d) → a ≡ (leb (get_or xs k 0) 2 && leb (get_or xs (k + 1) 0) 255) →
-      (b f : Bool) → d ≡ (b && f) → b ≡ is_pair xs (k + 2) → (m c : Bool) → f ≡ (m && c) → m ≡ is_pair xs (k + 4) → c ≡ is_pair xs (k + 6) → r ≡ is_node xs k
-  unfolding is_node
-  node_tests r a d e named b f pairs wanted m c more misses served = rw (e, named, pairs, wanted, more, misses, served)
+-- A loop that takes f 0, f 1, .. below n into an array while t holds of each. Its invariant: (all t i ≡ true) × (out ≡ filled f zeros i).
+module _ {A : Type 0} (t : ℕ → Bool) (f : ℕ → A) (zeros out : List A) (i : ℕ) (passed : all t i ≡ true) (filling : out ≡ filled f zeros i) where
+  -- there is none where one fails;
+  pub taken_stop : (n : ℕ) → i < n → None ≡ where_fit (t i) (f i) → None ≡ where_fit (all t n) (filled f zeros n)
+  taken_stop n l h = rw (sym (all_stop t n i (t i) refl (fit_none (t i) (f i) (sym h)) l))
 
-  -- what the numbers of a node say
-  pub node_said : (kind : NodeKind) → kind ≡ kind_named (get_or xs k 0) → (parent : Parent) → parent ≡ parent_of_byte (get_or xs (k + 1) 0) →
-      (wanted : SlotType) → wanted ≡ type_from xs (k + 2) → (misses : Misses) → misses ≡ misses_from xs (k + 4) →
-      (served : SlotType) → served ≡ type_from xs (k + 6) →
-      record { kind = kind; parent = parent; wanted = wanted; misses = misses; served = served } ≡ node_from xs k
-  unfolding node_from
-  node_said kind k-is parent p-is wanted w-is misses m-is served s-is = rw (k-is, p-is, w-is, m-is, s-is)
+  -- one more,
+  pub taken_more : (v : A) → Some v ≡ where_fit (t i) (f i) → (all t (i + 1) ≡ true) × (set out i v ≡ filled f zeros (i + 1))
+  taken_more v h =
+      let said = fit_some (t i) (f i) v (sym h) in
+      (all_more t i passed (t i) refl said.0, filled_more f zeros out i filling v (sym said.1))
 
--- what the numbers of a plan value say
-pub value_said : (xs : List ℕ) (supplies : List SlotType) → supplies ≡ filled (supply_in xs) (replicate 8 zero_type) 8 →
-    (nodes : List Node) → nodes ≡ filled (node_in xs) (replicate 64 zero_node) 64 →
-    record {
-      edition = get_or xs 0 0;
-      tick = record { p = get_or xs 1 0; q = get_or xs 2 0 };
-      cores = get_or xs 3 0;
-      supplies = supplies;
-      size = get_or xs 20 0;
-      nodes = nodes;
-    } ≡ plan_in xs
-unfolding plan_in
-value_said xs supplies s-is nodes n-is = rw (s-is, n-is)
+  -- and past the last
+  pub taken_done : (n : ℕ) → i ≤ n → n ≤ i → Some out ≡ where_fit (all t n) (filled f zeros n)
+  taken_done n l h = rw (sym (all_done t i passed n l h), sym (filled_done f zeros out i filling n l h))
 
--- a pair of numbers of 16 bits
-module _ (xs : List ℕ) (k : ℕ) (e : is_pair xs k ≡ true) where
-  -- the first fits C, or D
-  pub first_fits : Fits w16 (get_or xs k 0)
-  unfolding is_pair
-  first_fits = let h = leb-true (get_or xs k 0) 65535 (left_true (leb (get_or xs k 0) 65535) (leb (get_or xs (k + 1) 0) 65535) e) in record { fits = omega arith }
+-- entry j of chunk i
+chunk_at : (w m : ℕ) (xs : List ℕ) (i j : ℕ) → i < m → j < w → get_or (get_or (first_chunks w m xs) i []) j 0 ≡ get_or xs (w * i + j) 0
+chunk_at w zero xs i j h l = absurd (omega arith)
+chunk_at w (suc m) xs zero j h l = get_or-take w xs j 0 l ∙ ap (λ k. get_or xs k 0) (omega arith)
+chunk_at w (suc m) xs (suc i) j h l =
+    chunk_at w m (drop w xs) i j (omega arith) l ∙ get_or-drop w xs (w * i + j) 0 ∙ ap (λ k. get_or xs k 0) (omega (arith, mul-suc w i))
 
-  -- the second fits T, or W
-  pub second_fits : Fits w16 (get_or xs (k + 1) 0)
-  unfolding is_pair
-  second_fits = let h = leb-true (get_or xs (k + 1) 0) 65535 (right_true (leb (get_or xs k 0) 65535) (leb (get_or xs (k + 1) 0) 65535) e) in record { fits = omega arith }
+-- chunks of w numbers, cut from the m numbers from k on
+module _ (xs : List ℕ) (k m w : ℕ) (chunks : List (List ℕ)) where
+  chunk_read : chunks ≡ first_chunks w (length (take m (drop k xs)) / w) (take m (drop k xs)) →
+      (i j p : ℕ) → i < length (take m (drop k xs)) / w → j < w → w * i + j < m → p ≡ k + (w * i + j) → get_or (get_or chunks i []) j 0 ≡ get_or xs p 0
+  chunk_read cut i j p l h below e =
+      ap (λ x. get_or (get_or x i []) j 0) cut
+      ∙ chunk_at w (length (take m (drop k xs)) / w) (take m (drop k xs)) i j l h
+      ∙ get_or-take m (drop k xs) (w * i + j) 0 below
+      ∙ get_or-drop k xs (w * i + j) 0
+      ∙ ap (λ n. get_or xs n 0) (sym e)
 
--- numbers within a node's fields
-module _ (xs : List ℕ) (k : ℕ) (e : is_node xs k ≡ true) where
-  named : (leb (get_or xs k 0) 2 && leb (get_or xs (k + 1) 0) 255) ≡ true
-  unfolding is_node
-  named = left_true (leb (get_or xs k 0) 2 && leb (get_or xs (k + 1) 0) 255) (is_pair xs (k + 2) && (is_pair xs (k + 4) && is_pair xs (k + 6))) e
+-- the pairs and the eights of a plan's numbers
+module _ (xs : List ℕ) (whole : length xs ≡ 533) (chunks : List (List ℕ)) where
+  -- there are 8 pairs,
+  pub pairs_many : length chunks ≡ length (take 16 (drop 4 xs)) / 2 → length chunks ≡ 8
+  pairs_many e = e ∙ ap (λ n. n / 2) (length-take-le 16 (drop 4 xs) (omega (arith, length-drop 4 xs)))
 
-  paired : (is_pair xs (k + 2) && (is_pair xs (k + 4) && is_pair xs (k + 6))) ≡ true
-  unfolding is_node
-  paired = right_true (leb (get_or xs k 0) 2 && leb (get_or xs (k + 1) 0) 255) (is_pair xs (k + 2) && (is_pair xs (k + 4) && is_pair xs (k + 6))) e
+  -- supply i is in pair i;
+  pub pair_read : chunks ≡ first_chunks 2 (length (take 16 (drop 4 xs)) / 2) (take 16 (drop 4 xs)) →
+      length chunks ≡ length (take 16 (drop 4 xs)) / 2 → (i : ℕ) (x : List ℕ) (r : Option SlotType) → i < length chunks → x ≡ get_or chunks i x →
+      r ≡ where_fit (is_pair x 0) (type_from x 0) → r ≡ where_fit (is_supply_at xs i) (supply_in xs i)
+  unfolding is_supply_at supply_place supply_in is_pair type_from
+  pair_read cut many i x r l is said =
+      let few = pairs_many many in
+      let inside : i < length (take 16 (drop 4 xs)) / 2 = omega arith in
+      let here = is ∙ get_or_default chunks i x [] l in
+      let first = chunk_read xs 4 16 2 chunks cut i 0 (4 + 2 * i) inside (omega arith) (omega arith) (omega arith) in
+      let second = chunk_read xs 4 16 2 chunks cut i 1 (4 + 2 * i + 1) inside (omega arith) (omega arith) (omega arith) in
+      said ∙ ap (λ y. where_fit (is_pair y 0) (type_from y 0)) here ∙ rw (first, second)
 
-  last_paired : (is_pair xs (k + 4) && is_pair xs (k + 6)) ≡ true
-  last_paired = right_true (is_pair xs (k + 2)) (is_pair xs (k + 4) && is_pair xs (k + 6)) paired
+  -- and there are 64 eights,
+  pub eights_many : length chunks ≡ length (take (length xs - 21) (drop 21 xs)) / 8 → length chunks ≡ 64
+  eights_many e = e ∙ ap (λ n. n / 8) (length-take-le (length xs - 21) (drop 21 xs) (omega (arith, length-drop 21 xs)) ∙ ap (λ n. n - 21) whole)
 
-  -- the second is a parent byte
-  pub node_parent_small : get_or xs (k + 1) 0 ≤ 255
-  node_parent_small = leb-true (get_or xs (k + 1) 0) 255 (right_true (leb (get_or xs k 0) 2) (leb (get_or xs (k + 1) 0) 255) named)
-
-  -- the third and the fourth are such a pair,
-  pub node_wanted_fits : is_pair xs (k + 2) ≡ true
-  node_wanted_fits = left_true (is_pair xs (k + 2)) (is_pair xs (k + 4) && is_pair xs (k + 6)) paired
-
-  -- so are the two after them,
-  pub node_misses_fits : is_pair xs (k + 4) ≡ true
-  node_misses_fits = left_true (is_pair xs (k + 4)) (is_pair xs (k + 6)) last_paired
-
-  -- and the last two
-  pub node_served_fits : is_pair xs (k + 6) ≡ true
-  node_served_fits = right_true (is_pair xs (k + 4)) (is_pair xs (k + 6)) last_paired
-
--- whether numbers are a plan value's: of another number than 533, and of 533
-module _ (xs : List ℕ) where
-  pub plan_short : (length xs ≡ 533 → ⊥) → false ≡ is_plan xs
-  unfolding is_plan
-  plan_short h = rw (ne_eqb (length xs) 533 h)
-
-  -- the edition and the entries decide
-  pub plan_entries : length xs ≡ 533 → (a b d r : Bool) → a ≡ all (is_supply_at xs) 8 → b ≡ all (is_node_at xs) 64 → d ≡ (a && b) →
-      r ≡ (leb (get_or xs 0 0) 255 && d) → r ≡ is_plan xs
-  unfolding is_plan
-  plan_entries whole a b d r supplies nodes both e = rw (eq-eqb (length xs) 533 whole, ← supplies, ← nodes, ← both, e)
-
--- numbers within a plan's fields
-module _ (xs : List ℕ) (e : is_plan xs ≡ true) where
-  fields : (leb (get_or xs 0 0) 255 && (all (is_supply_at xs) 8 && all (is_node_at xs) 64)) ≡ true
-  unfolding is_plan
-  fields = right_true (eqb (length xs) 533) (leb (get_or xs 0 0) 255 && (all (is_supply_at xs) 8 && all (is_node_at xs) 64)) e
-
-  entries : (all (is_supply_at xs) 8 && all (is_node_at xs) 64) ≡ true
-  entries = right_true (leb (get_or xs 0 0) 255) (all (is_supply_at xs) 8 && all (is_node_at xs) 64) fields
-
-  -- the first fits the edition
-  pub edition_fits : Fits w8 (get_or xs 0 0)
-  edition_fits =
-      let h = leb-true (get_or xs 0 0) 255 (left_true (leb (get_or xs 0 0) 255) (all (is_supply_at xs) 8 && all (is_node_at xs) 64) fields) in
-      record { fits = omega arith }
-
-  -- those of supply i are a pair
-  pub supply_fits : (i : ℕ) → i < 8 → is_pair xs (4 + 2 * i) ≡ true
-  unfolding is_supply_at supply_place
-  supply_fits i l = all_true_at (is_supply_at xs) 8 (left_true (all (is_supply_at xs) 8) (all (is_node_at xs) 64) entries) i l
-
-  -- and those of node i within the fields of a node
-  pub node_fits : (i : ℕ) → i < 64 → is_node xs (21 + 8 * i) ≡ true
-  unfolding is_node_at node_place
-  node_fits i l = all_true_at (is_node_at xs) 64 (right_true (all (is_supply_at xs) 8) (all (is_node_at xs) 64) entries) i l
-
--- the plan value of numbers, as the test b finds them
-module _ (xs : List ℕ) (b : Bool) (is : b ≡ is_plan xs) where
-  -- of numbers that are no plan value's it is zeros
-  pub plan_none : b ≡ false → (p : Plan) → p ≡ zero_plan → p ≡ plan_of_numbers xs
-  unfolding plan_of_numbers
-  plan_none h p e = rw (sym is ∙ h) e
-
-  module _ (h : b ≡ true) where
-    -- those that are a plan value's are within its fields
-    pub plan_within : is_plan xs ≡ true
-    plan_within = sym is ∙ h
-
-    -- and 533
-    pub plan_whole : length xs ≡ 533
-    unfolding is_plan
-    plan_whole = eqb-true (length xs) 533 (left_true (eqb (length xs) 533) _ (sym is ∙ h))
-
-    -- and say it
-    pub plan_said : (p : Plan) → p ≡ plan_in xs → p ≡ plan_of_numbers xs
-    unfolding plan_of_numbers
-    plan_said p e = rw (sym is ∙ h) e
+  -- node i is in eight i
+  pub eight_read : chunks ≡ first_chunks 8 (length (take (length xs - 21) (drop 21 xs)) / 8) (take (length xs - 21) (drop 21 xs)) →
+      length chunks ≡ length (take (length xs - 21) (drop 21 xs)) / 8 → (i : ℕ) (x : List ℕ) (r : Option Node) → i < length chunks →
+      x ≡ get_or chunks i x → r ≡ where_fit (is_node x 0) (node_from x 0) → r ≡ where_fit (is_node_at xs i) (node_in xs i)
+  unfolding is_node_at node_place node_in is_node is_pair node_from type_from misses_from
+  eight_read cut many i x r l is said =
+      let few = eights_many many in
+      let inside : i < length (take (length xs - 21) (drop 21 xs)) / 8 = omega arith in
+      let at : (j p : ℕ) → j < 8 → p ≡ 21 + (8 * i + j) → get_or (get_or chunks i []) j 0 ≡ get_or xs p 0 =
+      λ j p h e. chunk_read xs 21 (length xs - 21) 8 chunks cut i j p inside h (omega arith) e in
+      let here = is ∙ get_or_default chunks i x [] l in
+      let a = at 0 (21 + 8 * i) (omega arith) (omega arith) in
+      let b = at 1 (21 + 8 * i + 1) (omega arith) (omega arith) in
+      let c = at 2 (21 + 8 * i + 2) (omega arith) (omega arith) in
+      let d = at 3 (21 + 8 * i + 2 + 1) (omega arith) (omega arith) in
+      let e = at 4 (21 + 8 * i + 4) (omega arith) (omega arith) in
+      let f = at 5 (21 + 8 * i + 4 + 1) (omega arith) (omega arith) in
+      let g = at 6 (21 + 8 * i + 6) (omega arith) (omega arith) in
+      let h = at 7 (21 + 8 * i + 6 + 1) (omega arith) (omega arith) in
+      said ∙ ap (λ y. where_fit (is_node y 0) (node_from y 0)) here ∙ rw (a, b, c, d, e, f, g, h)

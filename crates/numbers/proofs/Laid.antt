@@ -1,77 +1,20 @@
 -- How a plan value is laid down, type by type and node by node. Assumes nothing.
-use Prim.Native.Nat.{ℕ, suc, ◌+◌, ◌*◌, ◌≤◌, ◌<◌}
+use Prim.Native.Nat.{ℕ, ◌+◌, ◌*◌, ◌≤◌}
 use mathlib.Core.List.{List, [], ◌∷◌, ◌++◌}
 use mathlib.Core.Path.{◌≡◌, refl, sym, ap, ◌∙◌}
 use native.Mathlib.Nat.{le_antisymm}
 use native.Mathlib.Numerals.{add-one}
 use native.Mathlib.Omega.{arith}
-use lib.ListN.{length, replicate, set, get_or, length-set, length-append}
-use lib.Seq.{sets, length-sets}
+use lib.ListN.{length, replicate, set, get_or, length-append}
+use lib.Seq.{sets}
 use Rattle.meaning.specs.declared.SlotType.{SlotType}
 use Rattle.plans.specs.Plan.{zero_type, zero_node, zero_plan}
-use Rattle.plans.specs.declared.NodeKind.{NodeKind}
-use Rattle.plans.specs.declared.NodeKind.TheVariants.{AlignedLeaf, SlidingLeaf, Host}
-use Rattle.plans.specs.declared.Parent.{Parent}
-use Rattle.plans.specs.declared.Parent.TheVariants.{Supply, Node as Under}
 use Rattle.plans.specs.declared.Node.{Node}
 use Rattle.plans.specs.declared.Plan.{Plan}
 use Rattle.layout.specs.Layout.{kind_byte, parent_byte, lays}
 use Rattle.layout.proofs.Holds.{lays_length}
 use Rattle.numbers.specs.Numbers.{type_numbers, misses_numbers, node_numbers, type_part, node_part, plan_numbers}
 use Rattle.numbers.proofs.Stored.{sets_append, sets_all}
-
--- a pair is two stores
-pub pair_laid : (l : List ℕ) (k x y : ℕ) → set (set l k x) (k + 1) y ≡ sets l k (x ∷ y ∷ [])
-pair_laid l k x y = rw (add-one k)
-
--- a node is two stores and three pairs
-pub node_laid : (l : List ℕ) (k : ℕ) (n : Node) (x y : ℕ) → x ≡ kind_byte n.kind → y ≡ parent_byte n.parent →
-    (a : List ℕ) → a ≡ sets (set (set l k x) (k + 1) y) (k + 2) (n.wanted.c ∷ n.wanted.t ∷ []) →
-    (b : List ℕ) → b ≡ sets a (k + 4) (n.misses.d ∷ n.misses.w ∷ []) →
-    (r : List ℕ) → r ≡ sets b (k + 6) (n.served.c ∷ n.served.t ∷ []) → r ≡ sets l k (node_numbers n)
-unfolding type_numbers misses_numbers node_numbers
-node_laid l k n x y kind parent a wanted b misses r served =
-    let two : k + 2 ≡ suc (suc k) = omega arith in
-    let four : k + 4 ≡ suc (suc (suc (suc k))) = omega arith in
-    let six : k + 6 ≡ suc (suc (suc (suc (suc (suc k))))) = omega arith in
-    rw (served, misses, wanted, kind, parent, add-one k, two, four, six)
-
--- which leaves the list as long as it was
-pub node_length : (l : List ℕ) (k x y : ℕ) (us a : List ℕ) → a ≡ sets (set (set l k x) (k + 1) y) (k + 2) us →
-    (i : ℕ) (vs b : List ℕ) → b ≡ sets a i vs → (j : ℕ) (ws r : List ℕ) → r ≡ sets b j ws → length r ≡ length l
-node_length l k x y us a e i vs b g j ws r h =
-    ap length h
-    ∙ length-sets b j ws
-    ∙ ap length g
-    ∙ length-sets a i vs
-    ∙ ap length e
-    ∙ length-sets (set (set l k x) (k + 1) y) (k + 2) us
-    ∙ simp length-set
-
--- an aligned leaf is 0
-pub aligned_number : (k : NodeKind) → k ≡ AlignedLeaf → 0 ≡ kind_byte k
-unfolding kind_byte
-aligned_number k e = rw e
-
--- a sliding leaf is 1
-pub sliding_number : (k : NodeKind) → k ≡ SlidingLeaf → 1 ≡ kind_byte k
-unfolding kind_byte
-sliding_number k e = rw e
-
--- a virtual host is 2
-pub host_number : (k : NodeKind) → k ≡ Host → 2 ≡ kind_byte k
-unfolding kind_byte
-host_number k e = rw e
-
--- a supply's is its own number
-pub supply_number : (x : Parent) (s : ℕ) → x ≡ Supply s → s ≡ parent_byte x
-unfolding parent_byte
-supply_number x s e = rw e
-
--- and a node's is 128 more
-pub node_number : (x : Parent) (h : ℕ) → x ≡ Under h → 128 + h ≡ parent_byte x
-unfolding parent_byte
-node_number x h e = rw e
 
 -- The loop that lays parts of width w down from k on, whose invariant is out ≡ sets l k (lays f i): one part more, and past the last.
 module _ (f : ℕ → List ℕ) (w : ℕ) (each : (i : ℕ) → length (f i) ≡ w) (l : List ℕ) (k i : ℕ) (out : List ℕ) (e : out ≡ sets l k (lays f i)) where
@@ -89,18 +32,18 @@ pub part_none : (f : ℕ → List ℕ) (l : List ℕ) (k : ℕ) → l ≡ sets l
 unfolding lays
 part_none f l k = refl
 
-module _ (l : List ℕ) (k i : ℕ) (out next : List ℕ) where
+module _ (l : List ℕ) (k i : ℕ) (out next vs : List ℕ) where
   -- one type more
-  pub types_more : (types : List SlotType) → out ≡ sets l k (lays (type_part types) i) →
-      let a = get_or types i zero_type in next ≡ sets out (k + 2 * i) (a.c ∷ a.t ∷ []) → next ≡ sets l k (lays (type_part types) (i + 1))
+  pub types_more : (types : List SlotType) → out ≡ sets l k (lays (type_part types) i) → vs ≡ type_numbers (get_or types i zero_type) →
+      next ≡ sets out (k + 2 * i) vs → next ≡ sets l k (lays (type_part types) (i + 1))
   unfolding type_part type_numbers
-  types_more types e h = part_more (type_part types) 2 (λ j. refl) l k i out e next h
+  types_more types e is h = part_more (type_part types) 2 (λ j. refl) l k i out e next (h ∙ ap (λ x. sets out (k + 2 * i) x) is)
 
   -- one node more
-  pub nodes_more : (nodes : List Node) → out ≡ sets l k (lays (node_part nodes) i) →
-      next ≡ sets out (k + 8 * i) (node_numbers (get_or nodes i zero_node)) → next ≡ sets l k (lays (node_part nodes) (i + 1))
+  pub nodes_more : (nodes : List Node) → out ≡ sets l k (lays (node_part nodes) i) → vs ≡ node_numbers (get_or nodes i zero_node) →
+      next ≡ sets out (k + 8 * i) vs → next ≡ sets l k (lays (node_part nodes) (i + 1))
   unfolding node_part node_numbers type_numbers misses_numbers
-  nodes_more nodes e h = part_more (node_part nodes) 8 (λ j. refl) l k i out e next h
+  nodes_more nodes e is h = part_more (node_part nodes) 8 (λ j. refl) l k i out e next (h ∙ ap (λ x. sets out (k + 8 * i) x) is)
 
 -- types take two numbers each
 pub types_length : (types : List SlotType) (n : ℕ) → length (lays (type_part types) n) ≡ 2 * n
@@ -141,24 +84,3 @@ plan_laid_lem plan l whole m supplies r nodes =
     ∙ sets_append (sets l 0 head) 4 types ((plan.size ∷ []) ++ tail)
     ∙ ap (λ n. sets (sets (sets l 0 head) 4 types) (4 + n) ((plan.size ∷ []) ++ tail)) (types_length plan.supplies 8))
     ∙ sets_all l (plan_numbers plan) (plan_length plan ∙ sym whole)
-
-module _ (l : List ℕ) (a b c d : ℕ) (vs m : List ℕ) (whole : length l ≡ 533) (e : m ≡ sets (set (set (set (set l 0 a) 1 b) 2 c) 3 d) 4 vs) where
-  -- there are 533 numbers yet after the supplies:
-  pub plan_begun : length m ≡ 533
-  plan_begun = ap length e ∙ length-sets (set (set (set (set l 0 a) 1 b) 2 c) 3 d) 4 vs ∙ simp length-set whole
-
-  -- room for the nodes' count,
-  pub count_room : 20 < length m
-  count_room = omega (arith, plan_begun)
-
-  -- and for the nodes after it;
-  pub plan_room : (v : ℕ) → 533 ≤ length (set m 20 v)
-  plan_room v = omega (arith, length-set m 20 v, plan_begun)
-
-  -- and after the nodes there are as many as at first
-  pub plan_same : (v : ℕ) (ws r : List ℕ) → r ≡ sets (set m 20 v) 21 ws → length r ≡ length l
-  plan_same v ws r h = ap length h ∙ length-sets (set m 20 v) 21 ws ∙ length-set m 20 v ∙ plan_begun ∙ sym whole
-
--- what is stored at some places keeps its length
-pub stored_length : (l out : List ℕ) (i v : ℕ) → length out ≡ length (set l i v) → length out ≡ length l
-stored_length l out i v e = e ∙ length-set l i v

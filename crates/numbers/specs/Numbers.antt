@@ -1,5 +1,5 @@
 -- How a plan value lies in 533 numbers and a state in 65: include/mettulos.h. Past the end of the numbers everything reads as 0. Assumes nothing.
-use Rattle.std.specs.Prelude.{ℕ, ◌+◌, ◌*◌, Bool, true, false, cond, ◌&&◌, List, [], ◌∷◌, ◌++◌, leb, eqb, length, get_or, replicate}
+use Rattle.std.specs.Prelude.{ℕ, ◌≡◌, ◌<◌, ◌+◌, ◌*◌, Bool, true, false, cond, ◌&&◌, List, [], ◌∷◌, ◌++◌, leb, eqb, length, get_or, replicate, Option, Some, None}
 use Rattle.meaning.specs.declared.SlotType.{SlotType}
 use Rattle.meaning.specs.declared.Misses.{Misses}
 use Rattle.plans.specs.Plan.{zero_type, zero_node, zero_plan}
@@ -8,7 +8,8 @@ use Rattle.plans.specs.declared.Node.{Node}
 use Rattle.plans.specs.declared.Plan.{Plan}
 use Rattle.decode.specs.Decode.{kind_named, parent_of_byte, filled}
 use Rattle.layout.specs.Layout.{kind_byte, parent_byte, lays}
-use Rattle.dispatch.specs.Run.{Standing, zero_state}
+use Rattle.dispatch.specs.Run.{Standing, standing, zero_state}
+use Rattle.dispatch.specs.declared.State.{State}
 
 -- the two numbers of a type and of misses
 unfoldable pub type_numbers : SlotType → List ℕ
@@ -94,6 +95,14 @@ is_node_at xs i = is_node xs (node_place i)
 unfoldable pub is_plan : List ℕ → Bool
 is_plan xs = eqb (length xs) 533 && (leb (get_or xs 0 0) 255 && (all (is_supply_at xs) 8 && all (is_node_at xs) 64))
 
+-- The code says by an Option whether numbers are within their fields, and what they say.
+abbrev pub where_fit : {A : Type 0} → Bool → A → Option A
+where_fit fit value = cond fit (Some value) None
+
+-- what is answered of each part: f i of part i where t i holds, and none where it does not
+abbrev pub SaysEach : {S T : Type 0} → (S → Option T → Type 0) → List S → (ℕ → Bool) → (ℕ → T) → Type 0
+SaysEach answers parts t f = (i : ℕ) (x : _) (r : _) → i < length parts → x ≡ get_or parts i x → answers x r → r ≡ where_fit (t i) (f i)
+
 -- The plan value of any numbers. Those that are no plan value's give zeros, which no call takes for fit.
 unfoldable pub plan_of_numbers : List ℕ → Plan
 plan_of_numbers xs = cond (is_plan xs) (plan_in xs) zero_plan
@@ -120,7 +129,7 @@ is_count_at xs i = leb (count_in xs i) 65535
 unfoldable pub is_state : List ℕ → Bool
 is_state xs = eqb (length xs) 65 && all (is_count_at xs) 64
 
--- The state of any numbers; zeros where they are no state's. A state of zeros may be fit, so the code says with it whether they are.
+-- The state of any numbers; zeros where they are no state's. A state of zeros may be fit, so it is said with it whether they are.
 unfoldable pub state_of_numbers : List ℕ → Standing
 state_of_numbers xs = cond (is_state xs) (state_in xs) zero_state
 
@@ -130,6 +139,11 @@ no_state = (false, zero_state)
 
 unfoldable pub state_given : List ℕ → Bool × Standing
 state_given xs = (is_state xs, state_of_numbers xs)
+
+-- what the code's answer says of it
+abbrev pub given : Option State → Bool × Standing
+given (Some state) = (true, standing state)
+given None = no_state
 
 -- a state laid down in the numbers of `out`: whether it was, and what they are afterwards
 unfoldable pub state_laid : Standing → List ℕ → Bool × List ℕ

@@ -1,92 +1,59 @@
 // A plan value laid down in 533 numbers.
-ghost use Rattle.std.specs.Prelude.{[], ◌∷◌, ◌≡◌, ◌+◌, ◌≤◌, ◌<◌, ◌^◌, length};
+ghost use Rattle.std.specs.Prelude.{◌≡◌, ◌+◌, ◌≤◌, ◌<◌, ◌^◌, length};
 ghost use Rattle.std.proofs.lemmas.List.Edits.{sets};
-ghost use Rattle.layout.specs.Layout.{kind_byte, parent_byte, lays};
-ghost use Rattle.numbers.specs.Numbers.{node_numbers, type_part, node_part, plan_numbers};
+ghost use Rattle.numbers.specs.Numbers.{type_numbers, node_numbers, plan_numbers};
 
 use meaning::SlotType;
-use plans::{Node, NodeKind, Parent, Plan};
+use plans::{Node, Plan};
 
-// All 533 numbers.
-pub fn lay(plan: Plan, out: &mut [u32])
-    requires { (length out.old ≡ 533) × ((plan.cores < 2 ^ 32) × (plan.size < 2 ^ 32)) }
-    ensures { out.new ≡ plan_numbers plan }
+// All 533 numbers: the edition, P, Q and the number of supplies, eight supplies, the number of nodes, and 64 nodes.
+pub fn lay(plan: &Plan, out: &mut [u32])
+    requires { (length out.old ≡ 533) × ((plan.now.cores < 2 ^ 32) × (plan.now.size < 2 ^ 32)) }
+    ensures { out.new ≡ plan_numbers plan.now }
 {
-    let tick = plan.tick;
-    out[0] = plan.edition as u32;
-    out[1] = tick.p;
-    out[2] = tick.q;
-    out[3] = plan.cores as u32;
-    let supplies = plan.supplies;
-    put_supplies(supplies, out);
+    let edition = u32::from(plan.edition);
+    put(
+        &[edition, plan.tick.p, plan.tick.q, plan.cores as u32],
+        0,
+        out,
+    );
+    for (i, supply) in plan.supplies.iter().enumerate() {
+        put(&type_numbers(supply), 4 + 2 * i, out);
+    }
     out[20] = plan.size as u32;
-    let nodes = plan.nodes;
-    put_nodes(nodes, out);
-}
-
-fn put_supplies(supplies: [SlotType; 8], out: &mut [u32])
-    requires { 20 ≤ length out.old }
-    ensures { out.new ≡ sets out.old 4 (lays (type_part supplies) 8) }
-{
-    let mut i: usize = 0;
-    while i < 8 {
-        let a = supplies[i];
-        put_pair(a.c, a.t, 4 + 2 * i, out);
-        i += 1;
+    for (i, node) in plan.nodes.iter().enumerate() {
+        put(&node_numbers(node), 21 + 8 * i, out);
     }
 }
 
-fn put_nodes(nodes: [Node; 64], out: &mut [u32])
-    requires { 533 ≤ length out.old }
-    ensures { out.new ≡ sets out.old 21 (lays (node_part nodes) 64) }
+// Numbers laid down from place k on.
+#[tactic(auto, using(crate::proofs::Stored::put_stored))]
+fn put(numbers: &[u32], k: usize, out: &mut [u32])
+    requires { k + length numbers.now ≤ length out.old }
+    ensures { out.new ≡ sets out.old k numbers.now }
 {
-    let mut i: usize = 0;
-    while i < 64 {
-        put_node(nodes[i], 21 + 8 * i, out);
-        i += 1;
-    }
+    out[k..k + numbers.len()].copy_from_slice(numbers);
 }
 
-// Two numbers of 16 bits, those of a type or of misses, and the node n, from place k on.
-fn put_pair(x: u16, y: u16, k: usize, out: &mut [u32])
-    requires { k + 2 ≤ length out.old }
-    ensures { out.new ≡ sets out.old k (x ∷ y ∷ []) }
+#[tactic(auto, unfolding(crate::specs::Numbers::type_numbers))]
+fn type_numbers(a: &SlotType) -> [u32; 2]
+    ensures { result ≡ type_numbers a.now }
 {
-    out[k] = x as u32;
-    out[k + 1] = y as u32;
+    [u32::from(a.c), u32::from(a.t)]
 }
 
-fn put_node(n: Node, k: usize, out: &mut [u32])
-    requires { k + 8 ≤ length out.old }
-    ensures { out.new ≡ sets out.old k (node_numbers n) }
+#[tactic(auto, unfolding(crate::specs::Numbers::node_numbers, crate::specs::Numbers::type_numbers, crate::specs::Numbers::misses_numbers))]
+fn node_numbers(n: &Node) -> [u32; 8]
+    ensures { result ≡ node_numbers n.now }
 {
-    let kind = n.kind;
-    let parent = n.parent;
-    let wanted = n.wanted;
-    let misses = n.misses;
-    let served = n.served;
-    out[k] = kind_number(kind);
-    out[k + 1] = parent_number(parent);
-    put_pair(wanted.c, wanted.t, k + 2, out);
-    put_pair(misses.d, misses.w, k + 4, out);
-    put_pair(served.c, served.t, k + 6, out);
-}
-
-fn kind_number(kind: NodeKind) -> u32
-    ensures { result ≡ kind_byte kind }
-{
-    match kind {
-        NodeKind::AlignedLeaf => 0,
-        NodeKind::SlidingLeaf => 1,
-        NodeKind::Host => 2,
-    }
-}
-
-fn parent_number(parent: Parent) -> u32
-    ensures { result ≡ parent_byte parent }
-{
-    match parent {
-        Parent::Supply(s) => s as u32,
-        Parent::Node(h) => 128 + h as u32,
-    }
+    [
+        u32::from(u8::from(n.kind)),
+        u32::from(u16::from(n.parent)),
+        u32::from(n.wanted.c),
+        u32::from(n.wanted.t),
+        u32::from(n.misses.d),
+        u32::from(n.misses.w),
+        u32::from(n.served.c),
+        u32::from(n.served.t),
+    ]
 }

@@ -1,72 +1,61 @@
 // A plan value as 533 numbers and a state as 65, as include/mettulos.h says: taken from a slice of numbers, and laid down in one. A slice may hold
-// anything: numbers that are no value's give a value of zeros, and what has no place is not laid down. specs/Numbers.antt says how each value lies.
+// anything: numbers that are no plan value's give one of zeros, those that are no state's give none, and what has no place is not laid down.
+// specs/Numbers.antt says how each value lies.
 #![tactic(auto)]
 
-ghost use Rattle.std.specs.Prelude.{◌≡◌};
+ghost use Rattle.std.specs.Prelude.{◌≡◌, leb};
 ghost use Rattle.dispatch.specs.Run.{standing};
-ghost use Rattle.numbers.specs.Numbers.{plan_of_numbers, plan_laid, state_given, state_laid};
+ghost use Rattle.numbers.specs.Numbers.{plan_of_numbers, plan_laid, given, where_fit, state_given, state_laid};
 
 mod laying;
-mod states;
 mod values;
 
 use dispatch::State;
 use plans::Plan;
 
-// Whether numbers are a state's, and the state that they say, of zeros where they are none's.
-#[derive(Clone, Copy)]
-pub struct Given {
-    pub fit: bool,
-    pub state: State,
-}
-
 // The plan value that numbers say.
+#[tactic(auto, using(crate::proofs::Fields::fit_some, crate::proofs::Fields::fit_none), unfolding(crate::specs::Numbers::plan_of_numbers))]
 pub fn plan_of(xs: &[u32]) -> Plan
     ensures { result ≡ plan_of_numbers xs.now }
 {
-    if !values::is_plan(xs) {
-        return plans::zero_plan();
-    }
-    values::value_of(xs)
+    values::plan_in(xs).unwrap_or_else(plans::zero_plan)
 }
 
-// Lays a plan value down, where `out` has 533 numbers and 32 bits hold its counts. Says whether it did.
+// Lays a plan value down, where `out` has 533 numbers and 32 bits hold its counts. Says whether it did: by a bool, since that is what the definition
+// plan_laid says, and state_laid below.
+#[tactic(auto, unfolding(crate::specs::Numbers::plan_laid))]
 pub fn put_plan(plan: Plan, out: &mut [u32]) -> bool
     ensures { (result, out.new) ≡ plan_laid plan out.old }
 {
-    if out.len() != 533 {
-        return false;
+    let most = u32::MAX as usize;
+    let fits = out.len() == 533 && plan.cores <= most && plan.size <= most;
+    if fits {
+        laying::lay(&plan, out);
     }
-    if 4294967295 < plan.cores {
-        return false;
-    }
-    if 4294967295 < plan.size {
-        return false;
-    }
-    laying::lay(plan, out);
-    true
+    fits
 }
 
-// The state that numbers say, and whether they are a state's: the first that is too large decides.
-pub fn state_of(xs: &[u64]) -> Given
-    ensures { (result.fit, standing result.state) ≡ state_given xs.now }
+// The state that numbers say, where there are 65 and each count is within its field.
+pub fn state_of(xs: &[u64]) -> Option<State>
+    ensures { given result ≡ state_given xs.now }
 {
-    if xs.len() != 65 {
-        return states::none();
+    let [clock, counts @ ..] = xs else {
+        return None;
+    };
+    if counts.len() != 64 {
+        return None;
     }
-    let clock = xs[0];
-    let mut left = [0; 64];
-    let mut i: usize = 0;
-    while i < 64 {
-        let count = xs[i + 1];
-        if 65535 < count {
-            return states::none();
-        }
-        left[i] = count as u16;
-        i += 1;
-    }
-    let state = State { clock, left };
-    Given { fit: true, state }
+    Some(State {
+        clock: *clock,
+        left: values::each_of(0, counts, count_of)?,
+    })
+}
+
+// A count, which is a number of 16 bits.
+fn count_of(x: u64) -> Option<u16>
+    ensures { result ≡ where_fit (leb x 65535) x }
+{
+    u16::try_from(x).ok()
 }
 
 // Lays a state down, where `out` has 65 numbers. Says whether it did.
@@ -77,7 +66,8 @@ pub fn put_state(state: State, out: &mut [u64]) -> bool
         return false;
     }
     out[0] = state.clock;
-    let left = state.left;
-    states::put_left(left, out);
+    for (i, &count) in state.left.iter().enumerate() {
+        out[1 + i] = u64::from(count);
+    }
     true
 }

@@ -1,179 +1,112 @@
-// A plan value from its numbers: whether they are within their fields, and what they say.
-ghost use Rattle.std.specs.Prelude.{◌≡◌, true, ◌+◌, ◌≤◌, length, replicate};
+// A plan value from its numbers: none where one of them is beyond its field.
+ghost use Rattle.std.specs.Prelude.{◌≡◌, ◌&&◌, ℕ, Bool, leb, length, replicate};
+ghost use Rattle.std.specs.Simd.{first_chunks};
 ghost use Rattle.plans.specs.Plan.{zero_type, zero_node};
 ghost use Rattle.plans.specs.Sound.{all};
-ghost use Rattle.decode.specs.Decode.{kind_named, parent_of_byte, filled};
-ghost use Rattle.numbers.specs.Numbers.{is_pair, is_node, is_supply_at, is_node_at, is_plan, type_from, misses_from, node_from, supply_in, node_in, plan_in};
+ghost use Rattle.plans.specs.Bytes.{kind_named};
+ghost use Rattle.decode.specs.Decode.{filled};
+ghost use Rattle.numbers.specs.Numbers.{is_pair, is_node, is_supply_at, is_node_at, is_plan, type_from, node_from, supply_in, node_in, plan_in, where_fit, SaysEach};
 
 use meaning::{Misses, SlotType};
-use plans::{Node, NodeKind, Plan};
+use plans::{Node, NodeKind, Parent, Plan, ZERO_NODE, ZERO_TYPE};
 use ticks::Tick;
 
-// Whether the numbers are a plan value's.
-pub fn is_plan(xs: &[u32]) -> bool
-    ensures { result ≡ is_plan xs.now }
+// The plan value that 533 numbers say, supplies by two and nodes by eight.
+#[tactic(auto, using(crate::proofs::Fields::fit_some, crate::proofs::Fields::fit_none), unfolding(crate::specs::Numbers::is_plan, crate::specs::Numbers::plan_in))]
+pub fn plan_in(xs: &[u32]) -> Option<Plan>
+    ensures { result ≡ where_fit (is_plan xs.now) (plan_in xs.now) }
 {
     if xs.len() != 533 {
-        return false;
+        return None;
     }
-    basics::both(xs[0] <= 255, basics::both(are_supplies(xs), are_nodes(xs)))
+    Some(Plan {
+        edition: u8::try_from(xs[0]).ok()?,
+        tick: Tick { p: xs[1], q: xs[2] },
+        cores: xs[3] as usize,
+        supplies: supplies_in(xs)?,
+        size: xs[20] as usize,
+        nodes: nodes_in(xs)?,
+    })
 }
 
-fn are_supplies(xs: &[u32]) -> bool
+// The eight supplies, and the 64 nodes.
+fn supplies_in(xs: &[u32]) -> Option<[SlotType; 8]>
     requires { length xs.now ≡ 533 }
-    ensures { result ≡ all (is_supply_at xs.now) 8 }
+    ensures { result ≡ where_fit (all (is_supply_at xs.now) 8) (filled (supply_in xs.now) (replicate 8 zero_type) 8) }
 {
-    let mut i: usize = 0;
-    while i < 8 {
-        if !is_pair(xs, 4 + 2 * i) {
-            return false;
-        }
-        i += 1;
-    }
-    true
+    let (pairs, _) = xs[4..20].as_chunks::<2>();
+    each_of(ZERO_TYPE, pairs, type_of)
 }
 
-fn are_nodes(xs: &[u32]) -> bool
+fn nodes_in(xs: &[u32]) -> Option<[Node; 64]>
     requires { length xs.now ≡ 533 }
-    ensures { result ≡ all (is_node_at xs.now) 64 }
+    ensures { result ≡ where_fit (all (is_node_at xs.now) 64) (filled (node_in xs.now) (replicate 64 zero_node) 64) }
 {
-    let mut i: usize = 0;
-    while i < 64 {
-        if !is_node(xs, 21 + 8 * i) {
-            return false;
-        }
-        i += 1;
+    let (eights, _) = xs[21..].as_chunks::<8>();
+    each_of(ZERO_NODE, eights, node_of)
+}
+
+// What `say` makes of each of N parts; none where it makes nothing of one of them.
+// Not std's array::try_from_fn: it promises a call of some closure of that type at each index, and not of the one that it was given.
+pub fn each_of<S: Copy, T: Copy, F: Fn(S) -> Option<T>, const N: usize>(
+    zero: T,
+    parts: &[S],
+    say: F,
+) -> Option<[T; N]>
+    requires callable { F.IsAlwaysCallable say }
+    requires whole { length parts.now ≡ N }
+    ensures { (t : ℕ → Bool) (f : ℕ → T) → SaysEach (F.post say) parts.now t f → result ≡ where_fit (all t N) (filled f (replicate N zero) N) }
+{
+    let mut made = [zero; N];
+    for (i, &part) in parts.iter().enumerate() {
+        made[i] = say(part)?;
     }
-    true
+    Some(made)
 }
 
-// The numbers of a type or of misses, and of a node, from place k on.
-fn is_pair(xs: &[u32], k: usize) -> bool
-    requires { k + 2 ≤ length xs.now }
-    ensures { result ≡ is_pair xs.now k }
+// The type that two numbers say, and the node that eight do.
+#[tactic(auto, using(crate::proofs::Fields::fit_some, crate::proofs::Fields::fit_none), unfolding(crate::specs::Numbers::is_pair, crate::specs::Numbers::type_from))]
+fn type_of(pair: [u32; 2]) -> Option<SlotType>
+    ensures { result ≡ where_fit (is_pair pair 0) (type_from pair 0) }
 {
-    basics::both(xs[k] <= 65535, xs[k + 1] <= 65535)
+    let [c, t] = pair;
+    Some(SlotType {
+        c: short(c)?,
+        t: short(t)?,
+    })
 }
 
-fn is_node(xs: &[u32], k: usize) -> bool
-    requires { k + 8 ≤ length xs.now }
-    ensures { result ≡ is_node xs.now k }
+#[tactic(auto, using(crate::proofs::Fields::fit_some, crate::proofs::Fields::fit_none), unfolding(crate::specs::Numbers::is_node, crate::specs::Numbers::is_pair, crate::specs::Numbers::node_from, crate::specs::Numbers::type_from, crate::specs::Numbers::misses_from))]
+fn node_of(eight: [u32; 8]) -> Option<Node>
+    ensures { result ≡ where_fit (is_node eight 0) (node_from eight 0) }
 {
-    basics::both(
-        basics::both(xs[k] <= 2, xs[k + 1] <= 255),
-        basics::both(
-            is_pair(xs, k + 2),
-            basics::both(is_pair(xs, k + 4), is_pair(xs, k + 6)),
-        ),
-    )
+    let [kind, parent, c, t, d, w, served_c, served_t] = eight;
+    Some(Node {
+        kind: kind_of(kind)?,
+        parent: Parent::from(u8::try_from(parent).ok()?),
+        wanted: type_of([c, t])?,
+        misses: Misses {
+            d: short(d)?,
+            w: short(w)?,
+        },
+        served: type_of([served_c, served_t])?,
+    })
 }
 
-// The plan value that the numbers say.
-pub fn value_of(xs: &[u32]) -> Plan
-    requires { (length xs.now ≡ 533) × (is_plan xs.now ≡ true) }
-    ensures { result ≡ plan_in xs.now }
+// A number of 16 bits.
+fn short(x: u32) -> Option<u16>
+    ensures { result ≡ where_fit (leb x 65535) x }
 {
-    let edition = xs[0] as u8;
-    let tick = Tick { p: xs[1], q: xs[2] };
-    let cores = xs[3] as usize;
-    let supplies = supplies_of(xs);
-    let size = xs[20] as usize;
-    let nodes = nodes_of(xs);
-    Plan {
-        edition,
-        tick,
-        cores,
-        supplies,
-        size,
-        nodes,
-    }
+    u16::try_from(x).ok()
 }
 
-fn supplies_of(xs: &[u32]) -> [SlotType; 8]
-    requires { (length xs.now ≡ 533) × (is_plan xs.now ≡ true) }
-    ensures { result ≡ filled (supply_in xs.now) (replicate 8 zero_type) 8 }
+// A kind's number.
+fn kind_of(n: u32) -> Option<NodeKind>
+    ensures { result ≡ where_fit (leb n 2) (kind_named n) }
 {
-    let mut all = [SlotType { c: 0, t: 0 }; 8];
-    let mut i: usize = 0;
-    while i < 8 {
-        all[i] = type_from(xs, 4 + 2 * i);
-        i += 1;
-    }
-    all
-}
-
-fn nodes_of(xs: &[u32]) -> [Node; 64]
-    requires { (length xs.now ≡ 533) × (is_plan xs.now ≡ true) }
-    ensures { result ≡ filled (node_in xs.now) (replicate 64 zero_node) 64 }
-{
-    let none = SlotType { c: 0, t: 0 };
-    let zero = Node {
-        kind: NodeKind::AlignedLeaf,
-        parent: plans::Parent::Supply(0),
-        wanted: none,
-        misses: Misses { d: 0, w: 0 },
-        served: none,
-    };
-    let mut all = [zero; 64];
-    let mut i: usize = 0;
-    while i < 64 {
-        all[i] = node_from(xs, 21 + 8 * i);
-        i += 1;
-    }
-    all
-}
-
-// The type, the misses and the node that stand from place k on.
-fn type_from(xs: &[u32], k: usize) -> SlotType
-    requires { (k + 2 ≤ length xs.now) × (is_pair xs.now k ≡ true) }
-    ensures { result ≡ type_from xs.now k }
-{
-    SlotType {
-        c: xs[k] as u16,
-        t: xs[k + 1] as u16,
-    }
-}
-
-fn misses_from(xs: &[u32], k: usize) -> Misses
-    requires { (k + 2 ≤ length xs.now) × (is_pair xs.now k ≡ true) }
-    ensures { result ≡ misses_from xs.now k }
-{
-    Misses {
-        d: xs[k] as u16,
-        w: xs[k + 1] as u16,
-    }
-}
-
-fn node_from(xs: &[u32], k: usize) -> Node
-    requires { (k + 8 ≤ length xs.now) × (is_node xs.now k ≡ true) }
-    ensures { result ≡ node_from xs.now k }
-{
-    Node {
-        kind: kind_of(xs[k]),
-        parent: parent_of(xs[k + 1]),
-        wanted: type_from(xs, k + 2),
-        misses: misses_from(xs, k + 4),
-        served: type_from(xs, k + 6),
-    }
-}
-
-fn kind_of(b: u32) -> NodeKind
-    ensures { result ≡ kind_named b }
-{
-    match b {
-        0 => NodeKind::AlignedLeaf,
-        1 => NodeKind::SlidingLeaf,
-        _ => NodeKind::Host,
-    }
-}
-
-fn parent_of(b: u32) -> plans::Parent
-    requires { b ≤ 255 }
-    ensures { result ≡ parent_of_byte b }
-{
-    if b < 128 {
-        plans::Parent::Supply(b as u8)
+    if n <= 2 {
+        Some(NodeKind::named(n.into()))
     } else {
-        plans::Parent::Node((b - 128) as u8)
+        None
     }
 }

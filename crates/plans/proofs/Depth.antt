@@ -1,18 +1,13 @@
 -- Depths: each is at least 1, a node has at most one, and `within` finds the depths up to its bound. Where every parent below some number is an
 -- allowed one, every node below it has a depth. Assumes nothing.
-use Prim.Native.Nat.{ℕ, zero, suc, ◌-◌, ◌≤◌, ◌<◌}
-use mathlib.Core.Bool.{Bool, true, false}
-use mathlib.Core.List.{[], ◌∷◌}
-use mathlib.Core.Path.{◌≡◌, refl, sym, ap, subst, ◌∙◌}
+use Prim.Native.Nat.{ℕ, zero, suc, ◌+◌, ◌-◌, ◌≤◌, ◌<◌}
+use mathlib.Core.Bool.{true, false}
+use mathlib.Core.Path.{◌≡◌, refl, ap, subst}
 use native.Mathlib.Omega.{arith}
-use denote.Enum.Declared.{tag_of}
-use types.Run.{OneOf}
-use Rattle.plans.specs.contracts.Parent.{the_type}
-use Rattle.plans.specs.Plan.{node_at, parent_of}
+use Rattle.plans.specs.Plan.{parent_of}
 use Rattle.plans.specs.Sound.{Allowed, supply, host, Depth, top, under, up_to, within}
 use Rattle.plans.specs.declared.Parent.{Parent}
 use Rattle.plans.specs.declared.Parent.TheVariants.{Supply, Node as Under}
-use Rattle.plans.specs.declared.Node.{Node}
 use Rattle.plans.specs.declared.Plan.{Plan}
 
 -- node i has a depth, of at most k
@@ -20,10 +15,6 @@ pub record DepthUpTo (plan : Plan) (k i : ℕ) : Type 0 where
   pub depth : ℕ
   pub most : depth ≤ k
   pub is : Depth plan i depth
-
--- a parent is a supply, as the `else` of a `let Parent::Node(h) = parent` finds it
-abbrev IsSupply : Parent → Type 0
-IsSupply p = OneOf (0 ∷ []) (tag_of the_type p)
 
 module _ (plan : Plan) where
   -- a depth is at least 1
@@ -73,30 +64,16 @@ module _ (plan : Plan) where
   has_depth (suc n) allowed i l =
       one_deeper i (parent_of plan i) refl (allowed i l) (λ h k. has_depth n (λ j m. allowed j (omega arith)) h (omega arith))
 
--- a supply has a number
-supply_number : (p : Parent) → IsSupply p → (s : ℕ) × (p ≡ Supply s)
-supply_number (Supply s) h = (s, refl)
-supply_number (Under n) h = absurd (omega arith)
-
--- The walk up from a node: w is what was asked, and it is told by the node `at` that was reached with l steps left. No step is left:
-pub within_none : (plan : Plan) (l at : ℕ) (w : Bool) → within plan l at ≡ w → l ≤ 0 → false ≡ w
+-- The walk up from a node, of at most n steps, of which k are made: the node that is reached tells by its parent with one step less,
+pub within_step : (plan : Plan) (n k i : ℕ) → k < n → within plan (n - k) i ≡ up_to (within plan (n - (k + 1))) (parent_of plan i)
 unfolding within
-within_none plan zero at w e h = e
-within_none plan (suc l) at w e h = absurd (omega arith)
+within_step plan n k i h =
+    let more : n - k ≡ suc (n - (k + 1)) = omega arith in
+    rw more
 
--- a supply is met
-pub within_supply : (plan : Plan) (l at : ℕ) (w : Bool) → within plan l at ≡ w → 0 < l → (n : Node) → n ≡ node_at plan at → IsSupply n.parent → true ≡ w
-unfolding within up_to
-within_supply plan zero at w e some n here h = absurd (omega arith)
-within_supply plan (suc l) at w e some n here h =
-    let (s, is) = supply_number n.parent h in
-    rw (sym (ap (λ m. m.parent) here) ∙ is) at e
-
--- or a host, and it tells with one step less
-pub within_host : (plan : Plan) (l at : ℕ) (w : Bool) → within plan l at ≡ w → 0 < l → (n : Node) → n ≡ node_at plan at → (h v : ℕ) → n.parent ≡ Under h →
-    v ≡ h → within plan (l - 1) v ≡ w
-unfolding within up_to
-within_host plan zero at w e some n here h v is wide = absurd (omega arith)
-within_host plan (suc l) at w e some n here h v is wide =
-    let less : suc l - 1 ≡ l = omega arith in
-    rw (less, wide) (rw (sym (ap (λ m. m.parent) here) ∙ is) at e)
+-- and where no step is left there is no supply
+pub within_none : (plan : Plan) (n k i : ℕ) → n ≤ k → within plan (n - k) i ≡ false
+unfolding within
+within_none plan n k i h =
+    let none : n - k ≡ 0 = omega arith in
+    rw none

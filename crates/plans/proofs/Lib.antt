@@ -1,7 +1,6 @@
 pub mod Entries
 pub mod All
 pub mod Depth
-pub mod Tests
 pub mod Parents
 pub mod Cores
 pub mod Kept

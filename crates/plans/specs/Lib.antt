@@ -1,4 +1,5 @@
 pub mod Plan
+pub mod Bytes
 pub mod Sound
 pub mod Cores
 pub mod Promises

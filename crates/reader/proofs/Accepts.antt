@@ -11,9 +11,7 @@ use borrow.Author.Tests.{leb-true, le-leb, eqb-true, eq-eqb, eqb-false, not-true
 use Rattle.ticks.specs.Times.{in_range}
 use Rattle.meaning.specs.Types.{well_formed}
 use Rattle.meaning.specs.Soft.{within_range}
-use Rattle.answers.specs.Answers.{first, test, each}
-use Rattle.answers.specs.declared.Answer.{Answer}
-use Rattle.answers.specs.declared.Answer.TheVariants.{Accepted}
+use Rattle.answers.specs.Answers.{Answer, Accepted, first, test, each}
 use Rattle.answers.proofs.Laws.{first_assoc, first_accepted, first_accepted_left, first_accepted_right, test_true, test_accepted, each_accepted, each_accepted_at}
 use Rattle.plans.specs.Plan.{kind_of, no_misses}
 use Rattle.plans.specs.Sound.{all, counts, is_edition, parent_allowed, within, borne}

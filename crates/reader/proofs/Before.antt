@@ -1,16 +1,14 @@
 -- Files of edition 1 are read as document 01's reader read them: everything stands where it stood. Assumes nothing.
 use Prim.Native.Nat.{ℕ, zero, suc, ◌+◌, ◌*◌, ◌≤◌, min}
-use mathlib.Core.Bool.{Bool, true, false, cond, ◌||◌}
+use mathlib.Core.Bool.{cond, or-false}
 use mathlib.Core.List.{List}
 use mathlib.Core.Logic.{◌⊎◌, inl, inr}
 use mathlib.Core.Path.{◌≡◌, refl, ap, ◌∙◌}
 use native.Mathlib.Omega.{arith}
 use lib.Dec.{eqb}
-use lib.ListN.{length, replicate}
+use lib.ListN.{length, replicate, get_or-eq_default}
 use borrow.Author.Tests.{le-leb, ne_eqb}
-use Rattle.answers.specs.Answers.{accepts, first, test}
-use Rattle.answers.specs.declared.Answer.{Answer}
-use Rattle.answers.specs.declared.Answer.TheVariants.{Accepted, Refused}
+use Rattle.answers.specs.Answers.{Answer, Accepted, Refused, accepts, first, test}
 use Rattle.answers.proofs.Laws.{first_alike, first_accepted_left, first_accepted_right, test_accepted, each_none, each_ext}
 use Rattle.plans.specs.Plan.{zero_type, zero_node, zero_plan}
 use Rattle.plans.specs.Sound.{is_edition}
@@ -19,14 +17,13 @@ use Rattle.plans.proofs.All.{all_ext}
 use Rattle.plans.proofs.Kept.{edition_one_of}
 use Rattle.rules.specs.Check.{rules}
 use Rattle.fields.specs.Fields.{byte_at, type_at, there, check_type}
-use Rattle.fields.proofs.Ends.{byte_past}
 use Rattle.decode.specs.Positions.{edition_of, cores_at, cores_of, supply_start, nodes_at, size_of, node_start, served_at, names_at, name_start, end_at}
 use Rattle.decode.specs.Decode.{supply_of, node_of, plan_of}
 use Rattle.decode.proofs.Editions.{further_other, misses_not}
 use Rattle.decode.proofs.Filled.{filled_ext}
 use Rattle.names.specs.Names.{differs, is_new, check_name, check_names}
 use Rattle.reader.specs.Read.{check_part, check_spare, check_tick, check_supply, check_supplies, check_parent, check_node, check_nodes, check_end, check_bytes}
-use Rattle.reader.specs.Read.{read_answer, read_plan, name_of}
+use Rattle.reader.specs.Read.{read_answer, read_plan, has_name, name_of}
 use Rattle.reader.specs.Before.{cores_before, supply_start_before, nodes_at_before, size_before, node_start_before, names_at_before, name_start_before, end_before}
 use Rattle.reader.specs.Before.{supply_before, node_before, plan_before, check_tick_before, check_supply_before, check_supplies_before, check_parent_before}
 use Rattle.reader.specs.Before.{check_node_before, check_nodes_before, differs_before, check_name_before, check_names_before, check_end_before, answer_before}
@@ -43,11 +40,7 @@ first_last (Refused r k) = refl
 -- an edition that is not 2 passes where it is 1
 other_edition : (n : ℕ) → (n ≡ 2 → ⊥) → is_edition n ≡ eqb n 1
 unfolding is_edition
-other_edition n h = rw (ne_eqb n 2 h) (go (eqb n 1))
-  where
-    go : (b : Bool) → (b || false) ≡ b
-    go true = refl
-    go false = refl
+other_edition n h = rw (ne_eqb n 2 h) (or-false (eqb n 1))
 
 -- what is handed out is the same where the values are that are accepted
 handed_alike : (a : Answer) (p q : Plan) → (a ≡ Accepted → p ≡ q) → cond (accepts a) p zero_plan ≡ cond (accepts a) q zero_plan
@@ -191,7 +184,7 @@ module _ (s : List ℕ) (h : edition_of s ≡ 2 → ⊥) where
   reading_alike = rw (handed_alike (read_answer s) (plan_of s) (plan_before s) value_alike, answer_alike)
 
   named_alike : (i : ℕ) → name_of s i ≡ name_before s i
-  unfolding name_of name_before
+  unfolding has_name name_of name_before
   named_alike i = rw (answer_alike, size_alike, name_start_lem i)
 
 -- files of edition 1 are read as they were
@@ -201,9 +194,9 @@ first_edition_alike s h = record { reading = reading_alike s h; names = named_al
 
 -- the old reader refuses a file of edition 2 by 2
 pub old_reader_refuses : OldReaderRefuses
-unfolding answer_before check_tick_before there first test
+unfolding answer_before check_tick_before there first test byte_at
 old_reader_refuses s e = rw (le-leb 1 (length s) (some (length s) refl), e)
   where
     some : (n : ℕ) → length s ≡ n → 1 ≤ n
-    some zero l = absurd (omega (arith, byte_past s 0 (omega arith)))
+    some zero l = absurd (let none : byte_at s 0 ≡ 0 = get_or-eq_default s 0 (omega arith) in omega arith)
     some (suc n) l = omega arith

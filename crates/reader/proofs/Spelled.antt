@@ -6,7 +6,7 @@ use mathlib.Core.Path.{◌≡◌, refl, sym, ap, ◌∙◌}
 use native.Mathlib.Omega.{arith}
 use Rattle.ticks.specs.Times.{is_fit as is_fit_tick}
 use Rattle.meaning.specs.Types.{well_formed}
-use Rattle.answers.specs.declared.Answer.TheVariants.{Accepted, Refused}
+use Rattle.answers.specs.Answers.{Accepted, Refused}
 use Rattle.answers.proofs.Laws.{first_accepted_left, first_accepted_right, accepts_true, accepts_false}
 use Rattle.plans.specs.Plan.{zero_plan, misses_of, no_misses}
 use Rattle.plans.specs.Sound.{sound_supply, sound_misses, sound_node, sound}

@@ -3,8 +3,7 @@
 -- file is read as it was is a promise of specs/Promises.antt. Assumes nothing.
 use Rattle.std.specs.Prelude.{ℕ, zero, suc, ◌+◌, ◌*◌, min, Bool, cond, not, ◌&&◌, List, [], leb, ltb, eqb, length, take, drop, replicate}
 use Rattle.meaning.specs.declared.SlotType.{SlotType}
-use Rattle.answers.specs.Answers.{accepts, first, test, each}
-use Rattle.answers.specs.declared.Answer.{Answer}
+use Rattle.answers.specs.Answers.{Answer, accepts, first, test, each}
 use Rattle.plans.specs.Plan.{zero_type, zero_node, zero_plan, no_misses}
 use Rattle.plans.specs.Sound.{all, parent_allowed, within}
 use Rattle.plans.specs.declared.Node.{Node}
@@ -13,8 +12,7 @@ use Rattle.rules.specs.Check.{rules}
 use Rattle.fields.specs.Fields.{byte_at, four_at, type_at, there, check_type}
 use Rattle.decode.specs.Decode.{kind_named, parent_named, is_named, parent_or, filled}
 use Rattle.names.specs.Names.{is_length, check_letter, same_name}
-use Rattle.reader.specs.Read.{check_part, check_count, check_kind}
-use Rattle.reader.specs.declared.Reading.{Reading}
+use Rattle.reader.specs.Read.{Reading, check_part, check_count, check_kind}
 
 -- where the parts stand: the supplies' count at byte 9, four bytes a supply, ten a node
 unfoldable pub cores_before : List ℕ → ℕ

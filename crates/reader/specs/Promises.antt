@@ -1,12 +1,12 @@
 -- What documents 01 and 02 promise of a read, beyond what the table says field by field. Why each holds is in proofs/. Assumes nothing.
-use Rattle.std.specs.Prelude.{ℕ, List, ◌≡◌}
-use Rattle.answers.specs.Answers.{Place, accepted, refused, said}
-use Rattle.answers.specs.declared.Answer.{Answer}
-use Rattle.answers.specs.declared.Answer.TheVariants.{Refused}
+use Rattle.std.specs.Prelude.{ℕ, List, ◌≡◌, Result}
+use Rattle.answers.specs.Answers.{Refused, Place, accepted, refused, said, answered}
+use Rattle.answers.specs.declared.Refusal.{Refusal}
+use Rattle.plans.specs.declared.Plan.{Plan}
 use Rattle.plans.specs.Plan.{zero_plan}
 use Rattle.rules.specs.Fit.{Fit}
 use Rattle.fields.specs.Fields.{byte_at}
-use Rattle.reader.specs.Read.{read_plan, name_of}
+use Rattle.reader.specs.Read.{reading_of, read_plan, name_of}
 use Rattle.reader.specs.Before.{answer_before, read_before, name_before}
 
 -- a value that the reader hands out fits
@@ -17,9 +17,13 @@ HandsOutFit = (s : List ℕ) → said (read_plan s).answer ≡ accepted → Fit 
 abbrev pub RefusedGivesZeros : Type 0
 RefusedGivesZeros = (s : List ℕ) (r : ℕ) (p : Place) → said (read_plan s).answer ≡ refused r p → (read_plan s).plan ≡ zero_plan
 
--- two answers that say the same in document 01's terms are the same answer
+-- two results of a check that say the same in document 01's terms are the same result,
 abbrev pub OneAnswer : Type 0
-OneAnswer = (a b : Answer) → said a ≡ said b → a ≡ b
+OneAnswer = (a b : Result Unit Refusal) → said (answered a) ≡ said (answered b) → a ≡ b
+
+-- and so are two of a read: no equation allows more than one
+abbrev pub OneReading : Type 0
+OneReading = (a b : Result Plan Refusal) → reading_of a ≡ reading_of b → a ≡ b
 
 -- bytes are read as document 01's reader read them, answer, value and names
 pub record ReadAlike (s : List ℕ) : Type 0 where

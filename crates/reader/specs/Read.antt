@@ -1,10 +1,10 @@
 -- Reading a plan file field by field, with every refusal and its place: document 01, "The plan file", "Refusal numbers" and the order below them, and
 -- document 02, request 6. Written from the table; that it accepts just the files of the plans that fit is the theorem of the crate `layout`. Assumes nothing.
-use Rattle.std.specs.Prelude.{ℕ, ◌+◌, cond, ◌&&◌, List, [], leb, ltb, eqb, length, take, drop}
+use Rattle.std.specs.Prelude.{ℕ, ◌+◌, Bool, cond, ◌&&◌, List, [], leb, ltb, eqb, length, take, drop, Result, Ok, Err}
 use Rattle.ticks.specs.Times.{in_range}
-use Rattle.answers.specs.Answers.{accepts, first, test, each}
-use Rattle.answers.specs.declared.Answer.{Answer}
-use Rattle.answers.specs.declared.Answer.TheVariants.{Accepted}
+use Rattle.answers.specs.declared.Refusal.{Refusal}
+use Rattle.answers.specs.Answers.{Answer, Accepted, answered, accepts, first, test, each}
+use Rattle.plans.specs.declared.Plan.{Plan}
 use Rattle.plans.specs.Plan.{zero_plan, kind_of}
 use Rattle.plans.specs.Sound.{counts, is_edition, parent_allowed, within, borne}
 use Rattle.rules.specs.Check.{rules}
@@ -12,7 +12,6 @@ use Rattle.fields.specs.Fields.{byte_at, four_at, misses_at, there, check_type}
 use Rattle.decode.specs.Positions.{edition_of, further, cores_at, cores_of, supply_start, nodes_at, size_of, node_start, served_at, name_start, end_at}
 use Rattle.decode.specs.Decode.{parent_named, is_named, plan_of}
 use Rattle.names.specs.Names.{check_names}
-use Rattle.reader.specs.declared.Reading.{Reading}
 
 -- 01: "Tick, count 1: P and Q, four bytes each, both 1 to 1,000,000"
 unfoldable pub check_part : List ℕ → ℕ → Answer
@@ -80,18 +79,31 @@ check_end s = test (leb (length s) (end_at s)) 10 (end_at s)
 unfoldable pub check_bytes : List ℕ → Answer
 check_bytes s = first (check_tick s) (first (check_supplies s) (first (check_nodes s) (first (check_names s) (check_end s))))
 
--- 01: then the rules; "A refused read gives a plan value of zeros"
+-- 01: then the rules
 unfoldable pub read_answer : List ℕ → Answer
 read_answer s = first (check_bytes s) (rules (plan_of s))
 
+-- what a read hands out
+pub record Reading : Type 0 where
+  pub answer : Answer
+  pub plan : Plan
+
+-- and what the code hands out, as such a reading: a refusal is one of the value of zeros
+abbrev pub reading_of : Result Plan Refusal → Reading
+reading_of (Ok plan) = record { answer = Accepted; plan = plan }
+reading_of (Err e) = record { answer = answered (Err e); plan = zero_plan }
+
+-- 01: "A refused read gives a plan value of zeros"
 unfoldable pub read_plan : List ℕ → Reading
 read_plan s = record { answer = read_answer s; plan = cond (accepts (read_answer s)) (plan_of s) zero_plan }
 
 -- 01: "A name is handed out as the very part of the plan bytes that holds it; for a refused plan or a node not there, an empty part."
+unfoldable pub has_name : List ℕ → ℕ → Bool
+has_name s i = accepts (read_answer s) && ltb i (size_of s)
+
 unfoldable pub name_of : List ℕ → ℕ → List ℕ
-name_of s i =
-    cond (accepts (read_answer s) && ltb i (size_of s)) (take (byte_at s (name_start s i)) (drop (name_start s i + 1) s)) []
+name_of s i = cond (has_name s i) (take (byte_at s (name_start s i)) (drop (name_start s i + 1) s)) []
 
 -- where that part begins: after the name's length byte, and an empty part at the front
 unfoldable pub name_place : List ℕ → ℕ → ℕ
-name_place s i = cond (accepts (read_answer s) && ltb i (size_of s)) (name_start s i + 1) 0
+name_place s i = cond (has_name s i) (name_start s i + 1) 0

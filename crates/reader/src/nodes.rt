@@ -1,123 +1,81 @@
-// The nodes: kind, parent, depth, types and misses of each. The parent, the depth and the kind are asked of the plan value that the bytes spell.
-ghost use Rattle.std.specs.Prelude.{◌≡◌, ◌&&◌, ◌≤◌};
-ghost use Rattle.answers.specs.Answers.{each};
-ghost use Rattle.plans.specs.Sound.{parent_allowed};
-ghost use Rattle.decode.specs.Decode.{parent_named, is_named, plan_of};
+// The nodes: kind, parent, depth, types and misses of each.
+ghost use Rattle.std.specs.Prelude.{◌≡◌, ◌≤◌};
+ghost use Rattle.answers.specs.Answers.{answered};
+ghost use Rattle.decode.specs.Decode.{plan_of};
 ghost use Rattle.reader.specs.Read.{check_kind, check_parent, check_misses, check_node, check_nodes};
 
-use answers::Answer;
+use crate::supplies::check_count;
+use answers::{Refusal, Rule};
 use plans::Plan;
 
 // The nodes' count, and then each node.
-pub fn check_nodes(s: &[u8]) -> Answer
-    ensures { result ≡ check_nodes s.now }
+#[tactic(auto, unfolding(crate::specs::Read::check_nodes, answers::specs::Answers::first))]
+pub fn check_nodes(s: &[u8]) -> Result<(), Refusal>
+    ensures { answered result ≡ check_nodes s.now }
 {
-    let k = decode::nodes_at(s);
-    let size = decode::size_of(s);
-    let count = crate::supplies::check_count(s, k, 64);
-    let Answer::Accepted = count else {
-        return count;
+    check_count(s, decode::nodes_at(s), 64)?;
+    let file = File {
+        bytes: s,
+        plan: decode::plan_of(s),
     };
-    check_each(s, decode::plan_of(s), size)
+    answers::each(decode::size_of(s), |i| file.check_node(i))
 }
 
-fn check_each(s: &[u8], plan: Plan, n: usize) -> Answer
-    requires { (plan ≡ plan_of s.now) × (n ≤ 255) }
-    ensures { result ≡ each (check_node s.now) n }
+#[tactic(auto, unfolding(crate::specs::Read::check_kind, answers::specs::Answers::first))]
+fn check_kind(s: &[u8], k: usize) -> Result<(), Refusal>
+    ensures { answered result ≡ check_kind s.now k }
 {
-    let mut i: usize = 0;
-    while i < n {
-        let a = check_node(s, plan, i);
-        let Answer::Accepted = a else {
-            return a;
-        };
-        i += 1;
+    fields::is_there(s, k, 1)?;
+    answers::tested(fields::byte_at(s, k) <= 2, Rule::Kind, k)
+}
+
+// A plan file's bytes with the plan value that they spell, which is asked about the parent, the depth and the kind of a node.
+#[derive(Clone, Copy)]
+struct File<'a> {
+    bytes: &'a [u8],
+    plan: Plan,
+    ghost spelled: { plan ≡ plan_of bytes.now },
+}
+
+impl<'a> File<'a> {
+    #[tactic(auto, unfolding(crate::specs::Read::check_node, decode::specs::Positions::node_start, decode::specs::Positions::served_at, answers::specs::Answers::first))]
+    fn check_node(&self, i: usize) -> Result<(), Refusal>
+        requires { i ≤ 255 }
+        ensures { answered result ≡ check_node self.now.bytes.now i }
+    {
+        let s = self.bytes;
+        let k = decode::nodes_at(s) + 1 + 10 * i + decode::further(s, 4 * i);
+        check_kind(s, k)?;
+        self.check_parent(i, k + 1)?;
+        fields::check_type(s, k + 2)?;
+        self.check_misses(i, k + 6)?;
+        fields::check_type(s, k + 6 + decode::further(s, 4))
     }
-    Answer::Accepted
-}
 
-fn check_node(s: &[u8], plan: Plan, i: usize) -> Answer
-    requires { (plan ≡ plan_of s.now) × (i ≤ 255) }
-    ensures { result ≡ check_node s.now i }
-{
-    let k = decode::nodes_at(s) + 1 + 10 * i + decode::further(s, 4 * i);
-    let last = k + 6 + decode::further(s, 4);
-    let kind = check_kind(s, k);
-    let Answer::Accepted = kind else {
-        return kind;
-    };
-    let parent = check_parent(s, plan, i, k + 1);
-    let Answer::Accepted = parent else {
-        return parent;
-    };
-    let wanted = fields::check_type(s, k + 2);
-    let Answer::Accepted = wanted else {
-        return wanted;
-    };
-    let misses = check_misses(s, plan, i, k + 6);
-    let Answer::Accepted = misses else {
-        return misses;
-    };
-    fields::check_type(s, last)
-}
-
-fn check_kind(s: &[u8], k: usize) -> Answer
-    ensures { result ≡ check_kind s.now k }
-{
-    let b = fields::byte_at(s, k);
-    let there = fields::is_there(s, k, 1);
-    let Answer::Accepted = there else {
-        return there;
-    };
-    answers::tested(b <= 2, 5, k)
-}
-
-// The parent byte of node i, at k: 6, then 7.
-fn check_parent(s: &[u8], plan: Plan, i: usize, k: usize) -> Answer
-    requires { plan ≡ plan_of s.now }
-    ensures { result ≡ check_parent s.now i k }
-{
-    let b = fields::byte_at(s, k);
-    let there = fields::is_there(s, k, 1);
-    let Answer::Accepted = there else {
-        return there;
-    };
-    let allowed = answers::tested(is_allowed(plan, i, b), 6, k);
-    let Answer::Accepted = allowed else {
-        return allowed;
-    };
-    answers::tested(plans::is_within(plan, i), 7, k)
-}
-
-// Whether a parent byte names anything, and what the value has for it is a parent that node i may have.
-fn is_allowed(plan: Plan, i: usize, b: u8) -> bool
-    ensures { result ≡ (is_named (parent_named b) && parent_allowed plan i) }
-{
-    basics::both(
-        decode::is_named(decode::parent_named(b)),
-        plans::is_parent_allowed(plan, i),
-    )
-}
-
-// D and W of node i, where D begins at k in edition 2; edition 1 has none.
-fn check_misses(s: &[u8], plan: Plan, i: usize, k: usize) -> Answer
-    requires { plan ≡ plan_of s.now }
-    ensures { result ≡ check_misses s.now i k }
-{
-    if decode::edition_of(s) != 2 {
-        return Answer::Accepted;
+    // The parent byte of node i, at k: 6, then 7.
+    #[tactic(auto, unfolding(crate::specs::Read::check_parent, decode::specs::Decode::is_named, answers::specs::Answers::first))]
+    fn check_parent(&self, i: usize, k: usize) -> Result<(), Refusal>
+        ensures { answered result ≡ check_parent self.now.bytes.now i k }
+    {
+        fields::is_there(self.bytes, k, 1)?;
+        let named = decode::parent_named(fields::byte_at(self.bytes, k)).is_some();
+        let allowed = named && plans::is_parent_allowed(self.plan, i);
+        answers::tested(allowed, Rule::Parent, k)?;
+        answers::tested(plans::is_within(self.plan, i), Rule::Depth, k)
     }
-    let d = fields::is_there(s, k, 2);
-    let Answer::Accepted = d else {
-        return d;
-    };
-    let second = k + 2;
-    let w = fields::is_there(s, second, 2);
-    let Answer::Accepted = w else {
-        return w;
-    };
-    let node = plans::node_at(plan, i);
-    let kind = node.kind;
-    let misses = fields::misses_at(s, k);
-    answers::tested(plans::are_misses_borne(kind, misses), 19, k)
+
+    // D and W of node i, where D begins at k in edition 2; edition 1 has none.
+    #[tactic(auto, using(fields::proofs::Ends::there_ends), unfolding(crate::specs::Read::check_misses, plans::specs::Plan::kind_of, answers::specs::Answers::first))]
+    fn check_misses(&self, i: usize, k: usize) -> Result<(), Refusal>
+        ensures { answered result ≡ check_misses self.now.bytes.now i k }
+    {
+        if decode::edition_of(self.bytes) != 2 {
+            return Ok(());
+        }
+        fields::is_there(self.bytes, k, 2)?;
+        fields::is_there(self.bytes, k + 2, 2)?;
+        let kind = plans::node_at(self.plan, i).kind;
+        let misses = fields::misses_at(self.bytes, k);
+        answers::tested(plans::are_misses_borne(kind, misses), Rule::Misses, k)
+    }
 }

@@ -10,7 +10,7 @@ use native.Mathlib.Omega.{arith}
 use Rattle.meaning.specs.Types.{well_formed}
 use Rattle.meaning.specs.declared.SlotType.{SlotType}
 use Rattle.meaning.proofs.WellFormed.{bounds}
-use Rattle.plans.specs.Plan.{node_at, own_type}
+use Rattle.plans.specs.Plan.{node_at, served_of, own_type}
 use Rattle.plans.specs.Sound.{Sound, sound}
 use Rattle.plans.specs.declared.Node.{Node}
 use Rattle.plans.specs.declared.Parent.{Parent}
@@ -38,9 +38,9 @@ module _ (a : SlotType) (formed : well_formed a ≡ true) where
 pub served_formed : (plan : Plan) (i : ℕ) (n : Node) → n ≡ node_at plan i → sound plan ≡ true → i < plan.size → well_formed n.served ≡ true
 served_formed plan i n e kept l = rw e ((sound_kept plan kept).served i l)
 
--- a parent's own type, once read, is as well formed as it was
-pub own_formed : (plan : Plan) (x : Parent) (a : SlotType) → a ≡ own_type plan x → well_formed (own_type plan x) ≡ true → well_formed a ≡ true
-own_formed plan x a e h = rw e h
+-- so its period is no 0
+pub served_positive : (plan : Plan) (i : ℕ) → sound plan ≡ true → i < plan.size → 0 < (served_of plan i).t
+served_positive plan i kept l = formed_positive (served_of plan i) ((sound_kept plan kept).served i l)
 
 -- and the own type of a parent that a node of a sound plan stands under is well formed
 pub parent_formed : (plan : Plan) → Sound plan → (x : Parent) (i : ℕ) → Child plan x i → well_formed (own_type plan x) ≡ true

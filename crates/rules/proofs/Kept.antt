@@ -6,7 +6,7 @@ use mathlib.Core.Logic.{◌↔◌, ◌⊎◌, inl, inr}
 use mathlib.Core.Path.{◌≡◌, refl, sym, ap, ap₂, subst, ◌∙◌}
 use native.Mathlib.Omega.{arith}
 use Rattle.answers.specs.Answers.{none as placeless, at, nowhere, refused, said, accepts}
-use Rattle.answers.specs.declared.Answer.TheVariants.{Accepted, Refused}
+use Rattle.answers.specs.Answers.{Accepted, Refused}
 use Rattle.answers.proofs.Laws.{said_accepted, said_refused, refused_at, refused_none, accepts_true, accepts_accepted}
 use Rattle.plans.specs.Sound.{Sound, sound}
 use Rattle.plans.specs.declared.Plan.{Plan}

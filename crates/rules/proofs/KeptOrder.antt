@@ -6,8 +6,8 @@ use mathlib.Core.Logic.{inl, inr}
 use mathlib.Core.Path.{◌≡◌, refl, subst}
 use native.Mathlib.Omega.{arith}
 use Rattle.answers.specs.Answers.{each}
-use Rattle.answers.specs.declared.Answer.{Answer}
-use Rattle.answers.specs.declared.Answer.TheVariants.{Accepted, Refused}
+use Rattle.answers.specs.Answers.{Answer}
+use Rattle.answers.specs.Answers.{Accepted, Refused}
 use Rattle.answers.proofs.Laws.{each_accepted, each_accepted_at, FirstRefusal, each_refused, each_refused_at}
 use Rattle.rules.specs.Broken.{Earlier}
 

@@ -7,8 +7,8 @@ use lib.Dec.{eqb}
 use borrow.Author.Tests.{eqb-true}
 use native.Mathlib.Omega.{arith}
 use Rattle.answers.specs.Answers.{first, each}
-use Rattle.answers.specs.declared.Answer.{Answer}
-use Rattle.answers.specs.declared.Answer.TheVariants.{Accepted, Refused}
+use Rattle.answers.specs.Answers.{Answer}
+use Rattle.answers.specs.Answers.{Accepted, Refused}
 use Rattle.answers.proofs.Laws.{each_ext}
 use Rattle.plans.specs.Plan.{is_host}
 use Rattle.plans.specs.Sound.{Sound}

@@ -9,8 +9,8 @@ use Rattle.soft.specs.Formula.{allowed}
 use Rattle.types.specs.Verdict.{Said, holds, short, refused, judged}
 use Rattle.types.proofs.Kept.{holding as types-holding, exact as types-exact}
 use Rattle.answers.specs.Answers.{test}
-use Rattle.answers.specs.declared.Answer.{Answer}
-use Rattle.answers.specs.declared.Answer.TheVariants.{Refused}
+use Rattle.answers.specs.Answers.{Answer}
+use Rattle.answers.specs.Answers.{Refused}
 use Rattle.answers.proofs.Laws.{test_false, test_refused}
 use Rattle.plans.specs.Plan.{node_at, kind_of, wanted_of, misses_of, served_of, wanted_as, is_soft, own_type, is_child}
 use Rattle.plans.specs.Sound.{Sound, all}

@@ -1,7 +1,4 @@
 pub mod Formed
-pub mod Eleven
-pub mod Children
-pub mod Owing
 pub mod Totals
 pub mod Sums
 pub mod Siblings

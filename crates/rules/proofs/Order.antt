@@ -6,15 +6,15 @@ use mir.Syntax.{w8}
 use mir.Val.{Fits}
 use native.Mathlib.Omega.{arith}
 use Rattle.meaning.specs.Types.{well_formed}
-use Rattle.answers.specs.Answers.{accepts, nowhere}
-use Rattle.answers.specs.declared.Answer.{Answer}
-use Rattle.answers.specs.declared.Answer.TheVariants.{Accepted, Refused}
-use Rattle.plans.specs.Plan.{is_host, own_type}
+use Rattle.answers.specs.Answers.{nowhere}
+use Rattle.answers.specs.Answers.{Answer}
+use Rattle.answers.specs.Answers.{Refused}
+use Rattle.plans.specs.Plan.{own_type}
 use Rattle.plans.specs.Sound.{sound}
 use Rattle.plans.specs.declared.Parent.TheVariants.{Supply, Node as Under}
 use Rattle.plans.specs.declared.Plan.{Plan}
 use Rattle.plans.proofs.Kept.{sound_kept}
-use Rattle.rules.specs.Check.{check_parent, check_supply, check_host, rules, checked, is_fit}
+use Rattle.rules.specs.Check.{rules, checked}
 
 module _ (plan : Plan) (kept : sound plan ≡ true) where
   module _ (s : ℕ) (l : s < plan.cores) where
@@ -37,22 +37,6 @@ module _ (plan : Plan) (kept : sound plan ≡ true) where
     unfolding own_type
     host_formed = (sound_kept plan kept).wanted h l
 
--- a supply is checked as a parent
-pub supply_checked : (plan : Plan) (s : ℕ) (a : Answer) → a ≡ check_parent plan (Supply s) → a ≡ check_supply plan s
-unfolding check_supply
-supply_checked plan s a e = e
-
-module _ (plan : Plan) (i : ℕ) (b : Bool) (is : b ≡ is_host plan i) where
-  -- nothing is asked of a node that is no host
-  pub no_host_accepted : b ≡ false → Accepted ≡ check_host plan i
-  unfolding check_host
-  no_host_accepted h = rw (sym is ∙ h)
-
-  -- and a host is checked as a parent
-  pub host_checked : (a : Answer) → b ≡ true → a ≡ check_parent plan (Under i) → a ≡ check_host plan i
-  unfolding check_host
-  host_checked a h e = rw (sym is ∙ h) e
-
 module _ (plan : Plan) (b : Bool) (is : b ≡ sound plan) where
   -- a value that breaks one of 2 to 7 is refused with 16
   pub unsound_refused : b ≡ false → Refused 16 nowhere ≡ checked plan
@@ -67,8 +51,3 @@ module _ (plan : Plan) (b : Bool) (is : b ≡ sound plan) where
   pub sound_checked : (a : Answer) → b ≡ true → a ≡ rules plan → a ≡ checked plan
   unfolding checked
   sound_checked a h e = rw (passed_sound h) e
-
--- a value fits where its check is accepted
-pub fits_read : (plan : Plan) (a : Answer) (r : Bool) → a ≡ checked plan → r ≡ accepts a → r ≡ is_fit plan
-unfolding is_fit
-fits_read plan a r e h = rw (h, e)

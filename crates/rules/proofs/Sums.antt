@@ -1,10 +1,10 @@
 -- Sums and largest values as the loops of rule 14 build them, and the bounds that keep the sums small. Assumes nothing.
 use Prim.Native.Nat.{ℕ, ◌+◌, ◌*◌, ◌≤◌, ◌<◌, max}
 use mathlib.Core.Bool.{Bool, true, false, cond}
-use mathlib.Core.Path.{◌≡◌, refl, ap, ◌∙◌}
+use mathlib.Core.Path.{◌≡◌, refl}
 use mir.Syntax.{w64}
 use mir.Val.{Fits}
-use native.Mathlib.Nat.{le_antisymm, le_trans}
+use native.Mathlib.Nat.{le_trans}
 use native.Mathlib.Numerals.{add-one}
 use native.Mathlib.Omega.{arith}
 use Rattle.meaning.specs.declared.SlotType.{SlotType}
@@ -24,20 +24,10 @@ cond_bounded true n bound h = h
 cond_bounded false n bound h = omega arith
 
 module _ (plan : Plan) (x : Parent) where
-  -- M over the nodes passed: none,
-  pub longest_none : 0 ≡ most_to (child_period plan x) 0
-  unfolding most_to
-  longest_none = refl
-
-  -- one more,
+  -- M over one node more
   pub longest_more : (i m p r : ℕ) → m ≡ most_to (child_period plan x) i → p ≡ child_period plan x i → r ≡ max m p → r ≡ most_to (child_period plan x) (i + 1)
   unfolding most_to
   longest_more i m p r e h l = rw (add-one i, l, e, h)
-
-  -- and all
-  pub longest_done : (i m : ℕ) → m ≡ most_to (child_period plan x) i → i ≤ plan.size → plan.size ≤ i → m ≡ longest plan x
-  unfolding longest
-  longest_done i m e l h = e ∙ ap (most_to (child_period plan x)) (le_antisymm l h)
 
   -- the sum over the nodes passed: none,
   pub load_none : 0 ≡ load_to plan x 0

@@ -5,8 +5,8 @@ use Rattle.meaning.specs.declared.Kind.TheVariants.{Aligned}
 use Rattle.soft.specs.Formula.{divided, allowed}
 use Rattle.types.specs.Verdict.{Said, holds, short, refused, judged}
 use Rattle.answers.specs.Answers.{accepts, first, test, each, nowhere}
-use Rattle.answers.specs.declared.Answer.{Answer}
-use Rattle.answers.specs.declared.Answer.TheVariants.{Accepted, Refused}
+use Rattle.answers.specs.Answers.{Answer}
+use Rattle.answers.specs.Answers.{Accepted, Refused}
 use Rattle.plans.specs.Plan.{kind_of, wanted_of, misses_of, served_of, wanted_as, is_soft, own_type, is_child, is_host}
 use Rattle.plans.specs.Sound.{all, sound}
 use Rattle.plans.specs.declared.NodeKind.{NodeKind}

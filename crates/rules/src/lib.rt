@@ -4,43 +4,36 @@
 #![tactic(auto)]
 
 ghost use Rattle.std.specs.Prelude.{◌≡◌};
+ghost use Rattle.answers.specs.Answers.{answered};
 ghost use Rattle.rules.specs.Check.{checked, is_fit};
 
+mod family;
 mod loads;
 mod nodes;
 mod parents;
-mod whole;
 
-use answers::Answer;
+use answers::Refusal;
+use family::SoundPlan;
 use plans::Plan;
 
-// The place of a refusal that has none.
-const NOWHERE: usize = 18446744073709551615;
-
 // Whether a value fits.
+#[tactic(auto, unfolding(crate::specs::Check::is_fit, answers::specs::Answers::accepts))]
 pub fn is_fit(plan: Plan) -> bool
     ensures { result ≡ is_fit plan }
 {
-    answers::is_accepted(check(plan))
+    check(plan).is_ok()
 }
 
 // The first broken rule of a value that keeps 2 to 7 and 19, with its place; 16 for one that does not.
-pub fn check(plan: Plan) -> Answer
-    ensures { result ≡ checked plan }
+#[tactic(auto, using(crate::proofs::Order::sound_checked, crate::proofs::Order::unsound_refused), unfolding(crate::specs::Check::rules, answers::specs::Answers::first))]
+pub fn check(plan: Plan) -> Result<(), Refusal>
+    ensures { answered result ≡ checked plan }
 {
     if !plans::is_sound(plan) {
-        return Answer::Refused {
-            number: 16,
-            place: NOWHERE,
-        };
+        return Err(Refusal::Unfit);
     }
-    let served = nodes::check_nodes(plan);
-    let Answer::Accepted = served else {
-        return served;
-    };
-    let supplies = parents::check_supplies(plan);
-    let Answer::Accepted = supplies else {
-        return supplies;
-    };
-    parents::check_hosts(plan)
+    nodes::check_nodes(plan)?;
+    let plan = SoundPlan { plan };
+    plan.check_supplies()?;
+    plan.check_hosts()
 }

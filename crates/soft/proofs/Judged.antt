@@ -13,11 +13,14 @@ use Rattle.meaning.specs.declared.Misses.{Misses}
 use Rattle.meaning.specs.declared.Kind.TheVariants.{Aligned}
 use Rattle.meaning.proofs.WellFormed.{bounds, within_bounds, bounds_well}
 use Rattle.owed.proofs.Lowest.{le_or_lt}
-use Rattle.answers.specs.Answers.{Place, placed}
+use Rattle.std.proofs.Common.{Result, Ok, Err}
+use Rattle.answers.specs.Answers.{Place}
 use Rattle.types.specs.Verdict.{Said, holds, short, refused, said, judged}
 use Rattle.types.specs.Least.{step, turns, ones_at, least_ones}
 use Rattle.types.specs.declared.Verdict.{Verdict}
-use Rattle.types.specs.declared.Verdict.TheVariants.{Holds, Short, Refused}
+use Rattle.types.specs.declared.Verdict.TheVariants.{Holds, Short}
+use Rattle.types.specs.declared.Refusal.{Refusal}
+use Rattle.types.specs.declared.Refusal.TheVariants.{Giver, Wanted}
 use Rattle.types.proofs.Windows.{owed_from}
 use Rattle.soft.specs.Formula.{windows_in, lost, loses, worst, loses_few}
 use Rattle.soft.proofs.Loses.{loses_and_owed, most_and_least}
@@ -85,12 +88,19 @@ module _ (served wanted : SlotType) (misses : Misses) (g : well_formed served �
             (e ∙ worst_judged K u misses.d misses.w kept (omega (arith, few)) lost_fits wants range.fits),
       )
 
-  module _ (v : Verdict) (told : said v ≡ judged Aligned ((K - u) of K) Aligned ((misses.w - misses.d) of misses.w)) where
-    pub holds_few : (m : ℕ) → v ≡ Holds m → true ≡ loses_few served wanted misses
-    holds_few m e = let (l, h) = asked (holds m) (rw e at told) in held _ l m h
+  module _ (x : Result Verdict Refusal) (told : said x ≡ judged Aligned ((K - u) of K) Aligned ((misses.w - misses.d) of misses.w)) where
+    -- so where the answer is that it holds, few are lost
+    pub holds_few : (v : Verdict) (m : ℕ) → x ≡ Ok v → v ≡ Holds m → true ≡ loses_few served wanted misses
+    holds_few v m e h = let (l, a) = asked (holds m) (rw (e, h) at told) in held _ l m a
 
-    pub short_many : (m : ℕ) → v ≡ Short m → false ≡ loses_few served wanted misses
-    short_many m e = let (l, h) = asked (short m) (rw e at told) in fell_short _ l m h
+    -- where it falls short, many are
+    pub short_many : (v : Verdict) (m : ℕ) → x ≡ Ok v → v ≡ Short m → false ≡ loses_few served wanted misses
+    short_many v m e h = let (l, a) = asked (short m) (rw (e, h) at told) in fell_short _ l m a
 
-    pub never_refused : (r p : ℕ) → v ≡ Refused r p → false ≡ loses_few served wanted misses
-    never_refused r p e = let (l, h) = asked (refused r (placed 255 p)) (rw e at told) in refusal _ l r _ h
+    -- and a refusal there is none
+    pub never_refused : (r : Refusal) → x ≡ Err r → false ≡ loses_few served wanted misses
+    never_refused r e = let (l, a) = asked _ (rw e at told) in go r l a
+      where
+        go : (r : Refusal) (l : ℕ) → said (Err r) ≡ cond (loses_few served wanted misses) (holds l) (short l) → false ≡ loses_few served wanted misses
+        go Giver l a = refusal _ l _ _ a
+        go Wanted l a = refusal _ l _ _ a

@@ -12,100 +12,103 @@ use meaning::{Kind, Misses, SlotType};
 use types::Verdict;
 
 // Whether one of the two periods divides the other.
+#[tactic(auto, unfolding(crate::specs::Formula::divided))]
 pub fn is_divided(served: SlotType, wanted: SlotType) -> bool
     ensures { result ≡ divided served wanted }
 {
-    if is_multiple(served.t, wanted.t) {
-        return true;
-    }
-    is_multiple(wanted.t, served.t)
+    is_multiple(served.t, wanted.t) || is_multiple(wanted.t, served.t)
 }
 
 // Whether no stretch can lose more than D windows.
+#[tactic(auto, unfolding(crate::specs::Formula::allowed))]
 pub fn is_allowed(served: SlotType, wanted: SlotType, misses: Misses) -> bool
     ensures { result ≡ allowed served wanted misses }
 {
-    if !meaning::is_well_formed(served) {
-        return false;
-    }
-    if !meaning::is_well_formed(wanted) {
-        return false;
-    }
-    if !meaning::is_within_range(misses) {
-        return false;
-    }
-    if !is_divided(served, wanted) {
-        return false;
-    }
-    loses_few(served, wanted, misses)
+    meaning::is_well_formed(served)
+        && meaning::is_well_formed(wanted)
+        && meaning::is_within_range(misses)
+        && is_divided(served, wanted)
+        && Leaf {
+            served,
+            wanted,
+            misses,
+        }
+        .loses_few()
 }
 
-// The same as the hard question about windows.
-fn loses_few(served: SlotType, wanted: SlotType, misses: Misses) -> bool
-    requires { ((well_formed served ≡ true) × (well_formed wanted ≡ true)) × (within_range misses ≡ true) }
-    ensures { result ≡ loses_few served wanted misses }
-{
-    let k = windows_in(served, wanted);
-    let u = windows_lost(served, wanted);
-    let d = misses.d;
-    let w = misses.w;
-    let kept = SlotType { c: k - u, t: k };
-    let asked = SlotType { c: w - d, t: w };
-    match types::judge(Kind::Aligned, kept, Kind::Aligned, asked) {
-        Verdict::Holds(_) => true,
-        Verdict::Short(_) => false,
-        Verdict::Refused {
-            number: _,
-            place: _,
-        } => false,
-    }
+// What a soft leaf is served, what it wants and what it may miss: two well-formed types, and misses within their range.
+#[derive(Clone, Copy)]
+struct Leaf {
+    served: SlotType,
+    wanted: SlotType,
+    misses: Misses,
+    ghost served_fits: { well_formed served ≡ true },
+    ghost wanted_fits: { well_formed wanted ≡ true },
+    ghost misses_fit: { within_range misses ≡ true },
 }
 
-// K, the wanted windows in a served period, or 1 where none is shorter.
-fn windows_in(served: SlotType, wanted: SlotType) -> u16
-    requires { (well_formed served ≡ true) × (well_formed wanted ≡ true) }
-    ensures { result ≡ windows_in served wanted }
-{
-    if is_multiple(served.t, wanted.t) {
-        return served.t / wanted.t;
+impl Leaf {
+    // The same as the hard question about windows.
+    #[tactic(auto, using(crate::proofs::Answers::misses_fit))]
+    fn loses_few(self) -> bool
+        ensures { result ≡ loses_few self.served self.wanted self.misses }
+    {
+        let k = self.windows_in();
+        let kept = SlotType {
+            c: k - self.windows_lost(),
+            t: k,
+        };
+        let Misses { d, w } = self.misses;
+        let asked = SlotType { c: w - d, t: w };
+        matches!(
+            types::judge(Kind::Aligned, kept, Kind::Aligned, asked),
+            Ok(Verdict::Holds(_))
+        )
     }
-    1
-}
 
-// u, the windows that a served period can lose; where T divides T', the one window is lost where its served periods owe it less than C'.
-fn windows_lost(served: SlotType, wanted: SlotType) -> u16
-    requires { (well_formed served ≡ true) × (well_formed wanted ≡ true) }
-    ensures { result ≡ lost served wanted }
-{
-    if is_multiple(served.t, wanted.t) {
-        return lost_of_many(served, wanted);
+    // K, the wanted windows in a served period, or 1 where none is shorter.
+    #[tactic(auto, using(types::proofs::Windows::fits), unfolding(crate::specs::Formula::windows_in))]
+    fn windows_in(self) -> u16
+        ensures { result ≡ windows_in self.served self.wanted }
+    {
+        if is_multiple(self.served.t, self.wanted.t) {
+            self.served.t / self.wanted.t
+        } else {
+            1
+        }
     }
-    if wanted.t / served.t * served.c < wanted.c {
-        1
-    } else {
-        0
-    }
-}
 
-// A lost window has at most C' − 1 slots, so each takes T' − (C' − 1) of the T − C slots that a served period may go without.
-fn lost_of_many(served: SlotType, wanted: SlotType) -> u16
-    requires { ((well_formed served ≡ true) × (well_formed wanted ≡ true)) × (divides wanted.t served.t ≡ true) }
-    ensures { result ≡ lost_of_many served wanted }
-{
-    if wanted.c < 1 {
-        return 0;
+    // u, the windows that a served period can lose; where T divides T', the one window is lost where its served periods owe it less than C'.
+    #[tactic(auto, using(types::proofs::Windows::fits, crate::proofs::Answers::owed_small), unfolding(crate::specs::Formula::lost, crate::specs::Formula::lost_of_one))]
+    fn windows_lost(self) -> u16
+        ensures { result ≡ lost self.served self.wanted }
+    {
+        if is_multiple(self.served.t, self.wanted.t) {
+            self.lost_of_many()
+        } else {
+            u16::from(self.wanted.t / self.served.t * self.served.c < self.wanted.c)
+        }
     }
-    let all = served.t / wanted.t;
-    let some = (served.t - served.c) / (wanted.t - (wanted.c - 1));
-    if some < all { some } else { all }
+
+    // A lost window has at most C' − 1 slots, so each takes T' − (C' − 1) of the T − C slots that a served period may go without.
+    #[tactic(auto, using(types::proofs::Windows::fits, crate::proofs::Lost::unasked, crate::proofs::Answers::asks_some))]
+    fn lost_of_many(self) -> u16
+        requires { divides self.wanted.t self.served.t ≡ true }
+        ensures { result ≡ lost_of_many self.served self.wanted }
+    {
+        if self.wanted.c == 0 {
+            return 0;
+        }
+        let all = self.served.t / self.wanted.t;
+        let some = (self.served.t - self.served.c) / (self.wanted.t - (self.wanted.c - 1));
+        some.min(all)
+    }
 }
 
 // Whether a is a multiple of b, and b not 0.
+#[tactic(auto, unfolding(crate::specs::Formula::divides))]
 fn is_multiple(a: u16, b: u16) -> bool
     ensures { result ≡ divides b a }
 {
-    if b < 1 {
-        return false;
-    }
-    a % b == 0
+    b != 0 && a % b == 0
 }

@@ -1,14 +1,9 @@
 -- Why the promises of specs/Promises.antt hold. Assumes nothing.
-use Prim.Native.Nat.{ℕ, ◌+◌, ◌/◌, ◌%◌, ◌^◌, ◌≤◌, ◌<◌}
-use mathlib.Core.Bool.{Bool, true, false, cond}
-use mathlib.Core.Logic.{◌⊎◌, inl, inr}
-use mathlib.Core.Path.{◌≡◌, refl, sym, ap, ◌∙◌}
+use Rattle.std.proofs.Common.{◌≡◌, ℕ, ◌+◌, ◌/◌, ◌%◌, ◌≤◌, ◌<◌, Bool, true, false, refl, sym, ap, ◌∙◌, arith, Ok, Err}
+use Rattle.std.proofs.lemmas.Grind.{common_steps}
 use native.Mathlib.Nat.{le_antisymm, le_refl, div-add-mod', mod-lt}
-use native.Mathlib.Decide.{dec_le, dec_lt}
-use native.Mathlib.Omega.{arith}
-use lib.Dec.{leb}
-use borrow.Author.Tests.{le-leb, lt-leb}
-use Rattle.ticks.specs.Times.{is_fit, begins, latest, Said, number, refused, said, limited, timed, SlotSays}
+use native.Mathlib.Decide.{dec_lt}
+use Rattle.ticks.specs.Times.{is_fit, begins, latest, said, limited, timed, SlotSays}
 use Rattle.ticks.specs.Promises.{
   GivenExactly,
   ClosedForm,
@@ -21,25 +16,17 @@ use Rattle.ticks.specs.Promises.{
   ClosedFormSaid,
   OneAnswer,
 }
-use Rattle.ticks.specs.declared.Tick.{Tick}
-use Rattle.ticks.specs.declared.Answer.{Answer}
-use Rattle.ticks.specs.declared.Answer.TheVariants.{Number, Beyond, Unfit}
+use Rattle.ticks.specs.declared.Refusal.TheVariants.{Beyond, Unfit}
+use Rattle.ticks.proofs.Answers.{Fit, fit}
 use Rattle.ticks.proofs.Arithmetic.{at_most_closed, closed_begins, never_falls, rises}
-use Rattle.ticks.proofs.Answers.{Fit, fit, Refusal, refused_alike, answered}
 
 pub given_exactly : GivenExactly
 unfolding timed limited
 given_exactly tick x v = record {
-  unfit = λ h. rw h;
-  beyond = λ h l. rw h (go l (dec_le x (2 ^ 40)));
-  within = λ h l m. rw (h, le-leb x (2 ^ 40) l, le-leb v (2 ^ 40) m);
+  unfit = λ h. grind (arith, common_steps);
+  beyond = λ h l. grind (arith, common_steps);
+  within = λ h l m. grind (arith, common_steps);
 }
-  where
-    go : (2 ^ 40 < x) ⊎ (2 ^ 40 < v) → Dec (x ≤ 2 ^ 40) →
-        cond (leb x (2 ^ 40)) (cond (leb v (2 ^ 40)) (number v) (refused 15)) (refused 15) ≡ refused 15
-    go l (no h) = rw (lt-leb x (2 ^ 40) (omega arith))
-    go (inl l) (yes h) = absurd (omega arith)
-    go (inr l) (yes h) = rw (le-leb x (2 ^ 40) h, lt-leb v (2 ^ 40) l)
 
 pub closed_form : ClosedForm
 unfolding begins
@@ -80,15 +67,15 @@ unfolding begins
 never_falls_kept tick n m e h = never_falls tick.p tick.q n m (fit tick e).q.least h
 
 pub said_once : SaidOnce
-said_once (Number n) (Number m) e = cc
-said_once (Number n) Beyond e = cc
-said_once (Number n) Unfit e = cc
-said_once Beyond (Number m) e = cc
-said_once Beyond Beyond e = refl
-said_once Beyond Unfit e = cc
-said_once Unfit (Number m) e = cc
-said_once Unfit Beyond e = cc
-said_once Unfit Unfit e = refl
+said_once (Ok n) (Ok m) e = cc
+said_once (Ok n) (Err Beyond) e = cc
+said_once (Ok n) (Err Unfit) e = cc
+said_once (Err Beyond) (Ok m) e = cc
+said_once (Err Unfit) (Ok m) e = cc
+said_once (Err Beyond) (Err Beyond) e = refl
+said_once (Err Beyond) (Err Unfit) e = cc
+said_once (Err Unfit) (Err Beyond) e = cc
+said_once (Err Unfit) (Err Unfit) e = refl
 
 pub closed_form_said : ClosedFormSaid
 unfolding timed
@@ -109,12 +96,3 @@ closed_form_said tick t a = (
 pub one_answer : OneAnswer
 one_answer tick t a b ha hb =
     said_once a b ((closed_form_said tick t (said a)).0 ha ∙ sym ((closed_form_said tick t (said b)).0 hb))
-
--- what is refused before the slot is looked for may be said of it
-pub slot_refused : (tick : Tick) (t : ℕ) (a : Answer) → said a ≡ timed tick t t → Refusal a → SlotSays tick t (said a)
-slot_refused tick t a e h = (closed_form_said tick t (said a)).1 (refused_alike tick t a e h (latest tick t))
-
--- and so may the closed form, answered
-pub slot_found : (tick : Tick) (t : ℕ) (a : Answer) → said a ≡ timed tick t t → (m : ℕ) → a ≡ Number m → (s : Said) →
-    s ≡ limited (latest tick t) → SlotSays tick t s
-slot_found tick t a e m h s k = (closed_form_said tick t s).1 (answered tick t a e m h s (latest tick t) k)

@@ -1,8 +1,8 @@
 -- What document 01, "Slot times", promises of the definitions in Times. Why each holds is in proofs/Kept.antt. Assumes nothing.
-use Rattle.std.specs.Prelude.{ℕ, ◌+◌, ◌*◌, ◌^◌, ◌≤◌, ◌<◌, true, false, ◌↔◌, ◌⊎◌, ◌≡◌}
+use Rattle.std.specs.Prelude.{ℕ, ◌+◌, ◌*◌, ◌^◌, ◌≤◌, ◌<◌, true, false, ◌↔◌, ◌⊎◌, ◌≡◌, Result}
 use Rattle.ticks.specs.Times.{is_fit, begins, Latest, latest, Said, number, refused, said, timed, per_minute, SlotSays}
 use Rattle.ticks.specs.declared.Tick.{Tick}
-use Rattle.ticks.specs.declared.Answer.{Answer}
+use Rattle.ticks.specs.declared.Refusal.{Refusal}
 
 -- 01, refusals 16 and 15: "tick .. not fit" is given "before 15", which is given where "a slot, a time or an answer lies beyond 2^40", and otherwise
 -- the answer v to what is asked about x is given
@@ -41,7 +41,7 @@ NeverFalls = (tick : Tick) (n m : ℕ) → is_fit tick ≡ true → n ≤ m → 
 
 -- two answers that say the same are the same, so the equations that `start` and `minute` are held to allow one answer
 abbrev pub SaidOnce : Type 0
-SaidOnce = (a b : Answer) → said a ≡ said b → a ≡ b
+SaidOnce = (a b : Result ℕ Refusal) → said a ≡ said b → a ≡ b
 
 -- what is said of the slot of a time, by the sentence, is what the closed form says
 abbrev pub ClosedFormSaid : Type 0
@@ -49,4 +49,4 @@ ClosedFormSaid = (tick : Tick) (t : ℕ) (a : Said) → SlotSays tick t a ↔ (a
 
 -- so that what `slot` is held to allows one answer too
 abbrev pub OneAnswer : Type 0
-OneAnswer = (tick : Tick) (t : ℕ) (a b : Answer) → SlotSays tick t (said a) → SlotSays tick t (said b) → a ≡ b
+OneAnswer = (tick : Tick) (t : ℕ) (a b : Result ℕ Refusal) → SlotSays tick t (said a) → SlotSays tick t (said b) → a ≡ b

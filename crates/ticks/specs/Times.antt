@@ -1,8 +1,8 @@
 -- Slot times: document 01, "Slot times", and refusals 15 and 16 of its table. Assumes nothing.
-use Rattle.std.specs.Prelude.{ℕ, ◌+◌, ◌-◌, ◌*◌, ◌/◌, ◌^◌, ◌≤◌, Bool, true, false, cond, ◌&&◌, ◌≡◌, leb}
+use Rattle.std.specs.Prelude.{ℕ, ◌+◌, ◌-◌, ◌*◌, ◌/◌, ◌^◌, ◌≤◌, Bool, true, false, cond, ◌&&◌, ◌≡◌, leb, Result, Ok, Err}
 use Rattle.ticks.specs.declared.Tick.{Tick}
-use Rattle.ticks.specs.declared.Answer.{Answer}
-use Rattle.ticks.specs.declared.Answer.TheVariants.{Number, Beyond, Unfit}
+use Rattle.ticks.specs.declared.Refusal.{Refusal}
+use Rattle.ticks.specs.declared.Refusal.TheVariants.{Beyond, Unfit}
 
 -- 01, "The plan file": "P and Q, .. both 1 to 1,000,000"
 unfoldable pub in_range : ℕ → Bool
@@ -29,10 +29,10 @@ pub data Said : Type 0 where
   number : ℕ → Said
   refused : ℕ → Said
 
-abbrev pub said : Answer → Said
-said (Number n) = number n
-said Beyond = refused 15
-said Unfit = refused 16
+abbrev pub said : Result ℕ Refusal → Said
+said (Ok n) = number n
+said (Err Beyond) = refused 15
+said (Err Unfit) = refused 16
 
 -- 01, refusal 15: "a slot, a time or an answer lies beyond 2^40"
 unfoldable pub limited : ℕ → Said

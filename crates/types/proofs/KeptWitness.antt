@@ -1,15 +1,15 @@
 -- A no has its witness, in every buffer: the laws of each answer and its bytes, put together; and with a sliding giver it starts at 0. Assumes nothing.
 use Prim.Native.Nat.{ℕ, zero, suc, ◌+◌, ◌-◌, ◌≤◌, ◌<◌}
-use mathlib.Core.Bool.{true}
+use mathlib.Core.Bool.{Bool, true, cond}
 use mathlib.Core.List.{List, [], ◌∷◌, ◌++◌}
 use mathlib.Core.Logic.{◌⊎◌, inl, inr}
 use mathlib.Core.Path.{◌≡◌, refl, sym, ap, ◌∙◌}
-use lib.ListN.{length, get_or, drop, get_or-append}
+use lib.ListN.{length, get_or, drop, get_or-append, length-append, length-drop}
 use lib.Seq.{get_or_at, get_or-append-add, get_or-drop}
-use native.Mathlib.Nat.{eq-or-lt_of_le, le_of_suc-le-suc, le_refl, add-zero, zero-mul}
+use native.Mathlib.Nat.{eq-or-lt_of_le, le_of_suc-le-suc, add-zero, zero-mul}
 use native.Mathlib.Decide.{dec_lt}
 use native.Mathlib.Omega.{arith}
-use borrow.Author.Tests.{le-leb}
+use borrow.Author.Tests.{le-leb, lt-leb}
 use Rattle.meaning.specs.Allocation.{Allocation, bit}
 use Rattle.meaning.specs.Types.{well_formed, Starts}
 use Rattle.meaning.specs.Written.{written, stretch_from, stretch_to}
@@ -19,15 +19,13 @@ use Rattle.meaning.specs.declared.Kind.TheVariants.{Aligned, Sliding}
 use Rattle.meaning.proofs.WellFormed.{bounds}
 use Rattle.owed.proofs.Lowest.{le_or_lt}
 use Rattle.owed.proofs.Ones.{ones_later}
-use Rattle.answers.specs.Answers.{placed}
+use Rattle.answers.specs.Answers.{none}
 use Rattle.types.specs.Least.{ones_from, least_ones, first_short}
 use Rattle.types.specs.Verdict as verdict
 use Rattle.types.specs.Verdict.{judged}
-use Rattle.types.specs.Decision.{bytes, out_after}
+use Rattle.types.specs.Decision.{fails, refused, stretch, failing, decided, bytes, out_after}
 use Rattle.types.specs.Promises.{FirstFailing, Shown, NoRoom, NoHasWitness, SlidingFromZero}
-use Rattle.types.specs.declared.Verdict.TheVariants.{Short}
-use Rattle.types.proofs.Answers.{no_room, no_room_kept, shown, shown_written, too_few, short_fails, short_written}
-use Rattle.types.proofs.Stretch.{length_bytes, kept_long}
+use Rattle.types.proofs.Bytes.{length_bytes}
 use Rattle.types.proofs.KeptLeast.{first_failing}
 use Rattle.types.proofs.Kept.{holds_stands_in, failing_kept}
 
@@ -71,34 +69,42 @@ module _ (gives : Kind) (giver : SlotType) (wants : Kind) (wanted : SlotType) (g
   to = stretch_to giver.t s wanted.t
 
   -- they fall short
-  falls : verdict.short (least_ones gives giver wants wanted) ≡ judged gives giver wants wanted
-  falls = too_few gives giver wants wanted true (sym g) refl true (sym w) refl (least_ones gives giver wants wanted) refl fewer
+  falls : judged gives giver wants wanted ≡ verdict.short (least_ones gives giver wants wanted)
+  unfolding judged
+  falls = rw (g, w, lt-leb _ _ fewer)
 
   module _ (out : List ℕ) where
     -- where there is room the window is shown
-    short_shown : to - from ≤ length out → Shown gives giver wants wanted s (ones_from giver wanted s) (to - from) out
-    short_shown h = record {
-      answer = sym (short_fails gives giver wants wanted (Short _) falls _ refl s refl (length out) _
-          (shown giver wanted s from to refl refl (length out) _ h refl));
-      long = rw (← laid) (kept_long α from out _ (to - from) (to - from) refl h (le_refl _));
-      front = λ i l. rw (← laid) (front_at α from (to - from) out i l);
-      beyond = λ i l. rw (← laid) (beyond_at α from (to - from) out i l);
-    }
-      where
-        α : Allocation
-        α = written giver.c giver.t s wanted.t
+    module _ (h : to - from ≤ length out) where
+      shows : decided gives giver wants wanted (length out) ≡ fails s (ones_from giver wanted s) (to - from)
+      unfolding decided failing stretch
+      shows =
+          rw falls
+          (ap (λ (t : Bool). cond t (fails s (ones_from giver wanted s) (to - from)) (refused 17 none)) (le-leb (to - from) (length out) h))
 
-        laid : bytes α from (to - from) ++ drop (to - from) out ≡ out_after gives giver wants wanted out
-        laid = short_written gives giver wants wanted (Short _) falls _ refl s refl out _ (shown_written giver wanted s from to refl refl out _ h refl)
+      laid : out_after gives giver wants wanted out ≡ bytes (written giver.c giver.t s wanted.t) from (to - from) ++ drop (to - from) out
+      unfolding out_after
+      laid = rw shows
+
+      short_shown : Shown gives giver wants wanted s (ones_from giver wanted s) (to - from) out
+      short_shown = record {
+        answer = shows;
+        long = rw (laid, length-append, length_bytes, length-drop) (omega arith);
+        front = λ i l. rw laid (front_at (written giver.c giver.t s wanted.t) from (to - from) out i l);
+        beyond = λ i l. rw laid (beyond_at (written giver.c giver.t s wanted.t) from (to - from) out i l);
+      }
 
     -- and where there is none it is refused
-    short_refused : length out < to - from → NoRoom gives giver wants wanted out
-    unfolding placed
-    short_refused h = record {
-      answer = sym (short_fails gives giver wants wanted (Short _) falls _ refl s refl (length out) _
-          (no_room giver wanted s from to refl refl (length out) h));
-      kept = sym (short_written gives giver wants wanted (Short _) falls _ refl s refl out _ (no_room_kept giver wanted s from to refl refl out h));
-    }
+    module _ (h : length out < to - from) where
+      refuses : decided gives giver wants wanted (length out) ≡ refused 17 none
+      unfolding decided failing stretch
+      refuses =
+          rw falls
+          (ap (λ (t : Bool). cond t (fails s (ones_from giver wanted s) (to - from)) (refused 17 none)) (lt-leb (to - from) (length out) h))
+
+      short_refused : NoRoom gives giver wants wanted out
+      unfolding out_after
+      short_refused = record { answer = refuses; kept = rw refuses }
 
 -- a no always has its witness
 pub no_has_witness : NoHasWitness

@@ -1,7 +1,6 @@
 pub mod Windows
 pub mod First
-pub mod Stretch
-pub mod Answers
+pub mod Bytes
 pub mod KeptFirst
 pub mod KeptStarts
 pub mod KeptLeast

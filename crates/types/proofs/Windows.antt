@@ -2,19 +2,7 @@
 use Prim.Native.Nat.{ℕ, ◌+◌, ◌-◌, ◌*◌, ◌/◌, ◌%◌, ◌≤◌, ◌<◌, min}
 use mathlib.Core.Bool.{true}
 use mathlib.Core.Path.{◌≡◌, ◌∙◌}
-use native.Mathlib.Nat.{
-  add_assoc,
-  div-mul-le_self,
-  le_of_dvd,
-  le_of_lt,
-  le_trans,
-  lt-div-mul-add,
-  mod-le,
-  mod-lt,
-  mul-le-mul_left,
-  pos_of_dvd_of_pos,
-  zero-mul,
-}
+use native.Mathlib.Nat.{add_assoc, div-mul-le_self, le_trans, lt-div-mul-add, pos_of_dvd_of_pos, zero-mul}
 use native.Mathlib.Omega.{arith}
 use Rattle.meaning.specs.Least.{lowest}
 use Rattle.meaning.specs.Types.{well_formed}
@@ -43,45 +31,14 @@ period_most a h = (bounds a h).most
 pub count_le : (a : SlotType) → well_formed a ≡ true → a.c ≤ a.t
 count_le a h = (bounds a h).fits
 
--- an offset in a block is no longer than the block
-pub offset_le : (a : SlotType) (s : ℕ) → well_formed a ≡ true → s % a.t ≤ a.t
-offset_le a s h = le_of_lt (mod-lt s (period_positive a h))
+-- the three together
+pub ruleset fits = (period_positive, period_most, count_le)
 
--- the step from one wanted window to the next, by the kind
-pub step_aligned : (wants : Kind) (wanted : SlotType) → wants ≡ Aligned → wanted.t ≡ step wants wanted
-unfolding step
-step_aligned wants wanted e = rw e
-
-pub step_sliding : (wants : Kind) (wanted : SlotType) → wants ≡ Sliding → 1 ≡ step wants wanted
-unfolding step
-step_sliding wants wanted e = rw e
-
--- it is at least one slot
+-- the step from one wanted window to the next is at least one slot
 pub step_positive : (wants : Kind) (wanted : SlotType) → well_formed wanted ≡ true → 0 < step wants wanted
 unfolding step
 step_positive Aligned wanted w = period_positive wanted w
 step_positive Sliding wanted w = omega arith
-
--- and at most 4,096
-pub step_most : (wants : Kind) (wanted : SlotType) → well_formed wanted ≡ true → step wants wanted ≤ 4096
-unfolding step
-step_most Aligned wanted w = period_most wanted w
-step_most Sliding wanted w = omega arith
-
--- how many starts are looked at, by the kind
-pub turns_aligned : (gives : Kind) (giver : SlotType) → gives ≡ Aligned → giver.t ≡ turns gives giver
-unfolding turns
-turns_aligned gives giver e = rw e
-
-pub turns_sliding : (gives : Kind) (giver : SlotType) → gives ≡ Sliding → 1 ≡ turns gives giver
-unfolding turns
-turns_sliding gives giver e = rw e
-
--- they are at most 4,096
-pub starts_few : (gives : Kind) (giver : SlotType) (n : ℕ) → well_formed giver ≡ true → n ≡ turns gives giver → n ≤ 4096
-unfolding turns
-starts_few Aligned giver n g e = rw e (period_most giver g)
-starts_few Sliding giver n g e = omega arith
 
 -- the ones of the written allocation are what is owed
 pub owed_from : (giver wanted : SlotType) (s : ℕ) → well_formed giver ≡ true → ones_from giver wanted s ≡ owed giver.c giver.t s wanted.t
@@ -105,35 +62,10 @@ module _
   pub parts_most : well_formed wanted ≡ true → b + (wanted.t - h) / giver.t * giver.c + e ≤ 4096
   parts_most w = le_trans (rw by_parts (ones_from_le giver wanted s)) (period_most wanted w)
 
--- the sums on the way are small, whatever the window's first part: the whole blocks, these with the first part, and with the last
-module _ (giver wanted : SlotType) (h : ℕ) (g : well_formed giver ≡ true) (w : well_formed wanted ≡ true) where
-  pub blocks_small : (wanted.t - h) / giver.t * giver.c ≤ 4096
-  blocks_small =
-      omega (
-        arith,
-        period_most wanted w,
-        div-mul-le_self (wanted.t - h) giver.t,
-        mul-le-mul_left ((wanted.t - h) / giver.t) (count_le giver g),
-      )
-
-  module _ (x y b : ℕ) (first : h ≡ min wanted.t x) (before : b ≡ h - y) where
-    pub two_small : b + (wanted.t - h) / giver.t * giver.c ≤ 8192
-    two_small = omega (arith, period_most wanted w, blocks_small)
-
-    pub three_small : (z e : ℕ) → e ≡ (wanted.t - h) % giver.t - z → b + (wanted.t - h) / giver.t * giver.c + e ≤ 12288
-    three_small z e behind = omega (arith, period_most wanted w, mod-le (wanted.t - h) giver.t, two_small)
-
 module _ (giver : SlotType) (n d : ℕ) (g : well_formed giver ≡ true) (common : Common giver.t n d) where
   -- a common divisor is no zero divisor
   pub divisor_positive : 0 < d
   divisor_positive = pos_of_dvd_of_pos common.left (period_positive giver g)
-
-  -- and its multiples next to C are small
-  pub low_small : giver.c / d * d ≤ 4096
-  low_small = omega (arith, div-mul-le_self giver.c d, count_le giver g, period_most giver g)
-
-  pub high_small : giver.c / d * d + d ≤ 8192
-  high_small = omega (arith, low_small, le_of_dvd (period_positive giver g) common.left, period_most giver g)
 
   -- an aligned giver owes least at the last multiple of the divisor up to C or at the next one
   pub least_two
@@ -149,16 +81,6 @@ module _ (giver : SlotType) (n d : ℕ) (g : well_formed giver ≡ true) (common
       (period_positive giver g) (count_le giver g) common.left common.right reach.meets
       (div-mul-le_self giver.c d) (omega (arith, lt-div-mul-add {a = giver.c} divisor_positive)))
 
-  -- the lesser of the two, by the test
-  module _
-      (wants : Kind) (wanted : SlotType) (a b : ℕ) (w : well_formed wanted ≡ true) (e : n ≡ step wants wanted)
-      (left : a ≡ ones_from giver wanted (giver.c / d * d)) (right : b ≡ ones_from giver wanted (giver.c / d * d + d)) where
-    pub least_left : a ≤ b → a ≡ least_ones Aligned giver wants wanted
-    least_left h = omega (arith, least_two wants wanted w e)
-
-    pub least_right : b < a → b ≡ least_ones Aligned giver wants wanted
-    least_right h = omega (arith, least_two wants wanted w e)
-
 -- a sliding giver is looked at from start 0 alone
 pub least_sliding
     : (gives : Kind) (giver : SlotType) (wants : Kind) (wanted : SlotType) (r : ℕ) → gives ≡ Sliding → r ≡ ones_from giver wanted 0
@@ -166,9 +88,3 @@ pub least_sliding
 unfolding least_ones turns ones_at lowest
 least_sliding gives giver wants wanted r e h =
     rw (e, zero-mul (step wants wanted), ← h) (omega (arith, ones_from_le giver wanted 0))
-
--- an aligned one from each of its starts
-pub least_of_aligned
-    : (gives : Kind) (giver : SlotType) (wants : Kind) (wanted : SlotType) (r : ℕ) → gives ≡ Aligned
-    → r ≡ least_ones Aligned giver wants wanted → r ≡ least_ones gives giver wants wanted
-least_of_aligned gives giver wants wanted r e h = rw e h

@@ -1,10 +1,10 @@
 -- The decision on a pair of types, with its allocation: document 01, "Types and what they mean", and the order of its refusals. Assumes nothing.
-use Rattle.std.specs.Prelude.{ℕ, zero, suc, ◌+◌, ◌-◌, cond, List, [], ◌∷◌, ◌++◌, leb, length, drop}
+use Rattle.std.specs.Prelude.{ℕ, zero, suc, ◌+◌, ◌-◌, cond, List, [], ◌∷◌, ◌++◌, leb, length, drop, Option, Some, None}
 use Rattle.meaning.specs.Allocation.{Allocation, bit}
 use Rattle.meaning.specs.Written.{written, stretch_from, stretch_to}
 use Rattle.meaning.specs.declared.SlotType.{SlotType}
 use Rattle.meaning.specs.declared.Kind.{Kind}
-use Rattle.answers.specs.Answers.{Place, none, placed}
+use Rattle.answers.specs.Answers.{Place, none, at}
 use Rattle.types.specs.Least.{ones_from, first_short}
 use Rattle.types.specs.Verdict.{judged}
 use Rattle.types.specs.Verdict as verdict
@@ -18,11 +18,16 @@ pub data Said : Type 0 where
   fails : ℕ → ℕ → ℕ → Said
   refused : ℕ → Place → Said
 
--- a place is a byte here, and 255 stands for none
+-- the place of a refusal, where it has one
+abbrev pub place_of : Option ℕ → Place
+place_of (Some k) = at k
+place_of None = none
+
+-- the call's answer in these terms
 abbrev pub said_of : Decision → Said
 said_of (Holds m) = holds m
 said_of (Fails s o n) = fails s o n
-said_of (Refused r p) = refused r (placed 255 p)
+said_of (Refused r p) = refused r (place_of p)
 
 -- the length of the stretch around the window that starts at s
 unfoldable pub stretch : SlotType → SlotType → ℕ → ℕ

@@ -1,5 +1,5 @@
 -- What document 01, "Types and what they mean", promises of the decision, by the meaning alone. Why each holds is in proofs/. Assumes nothing.
-use Rattle.std.specs.Prelude.{ℕ, ◌+◌, ◌-◌, ◌≤◌, ◌<◌, true, false, List, ◌↔◌, ◌≡◌, length, get_or}
+use Rattle.std.specs.Prelude.{ℕ, ◌+◌, ◌-◌, ◌≤◌, ◌<◌, true, false, List, ◌↔◌, ◌≡◌, length, get_or, Result}
 use Rattle.meaning.specs.Allocation.{Allocation, bit, ones}
 use Rattle.meaning.specs.Types.{well_formed, Starts, Honours, StandsIn}
 use Rattle.meaning.specs.Written.{written, stretch_from, stretch_to}
@@ -13,6 +13,7 @@ use Rattle.types.specs.Decision as decision
 use Rattle.types.specs.Decision.{said_of, decided, out_after}
 use Rattle.types.specs.declared.Verdict.{Verdict}
 use Rattle.types.specs.declared.Decision.{Decision}
+use Rattle.types.specs.declared.Refusal.{Refusal}
 
 module _ (gives : Kind) (giver : SlotType) (wants : Kind) (wanted : SlotType) where
   -- m is the least number of ones that an allocation honouring the giver can have in a wanted window: none has fewer, and one has just that
@@ -119,7 +120,7 @@ NothingWritten =
 
 -- Two answers that say the same are the same, so each call's equation allows one answer; the buffer's equation allows one list.
 abbrev pub OneVerdict : Type 0
-OneVerdict = (a b : Verdict) → said a ≡ said b → a ≡ b
+OneVerdict = (a b : Result Verdict Refusal) → said a ≡ said b → a ≡ b
 
 abbrev pub OneDecision : Type 0
 OneDecision = (a b : Decision) → said_of a ≡ said_of b → a ≡ b

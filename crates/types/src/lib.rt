@@ -7,56 +7,50 @@ ghost use Rattle.std.specs.Prelude.{◌≡◌, length};
 ghost use Rattle.types.specs.Verdict.{said, judged};
 ghost use Rattle.types.specs.Decision.{said_of, decided, out_after};
 
-mod allocation;
-mod least;
+mod pair;
+mod window;
 
 use meaning::{Kind, SlotType};
+use pair::Pair;
+use window::Window;
 
 // Whether a giver stands in for a wanted type, with the least number of ones that a wanted window can have.
-#[derive(Clone, Copy)]
+#[derive(Clone, Copy, Debug, PartialEq, Eq)]
 pub enum Verdict {
     Holds(u16),
     Short(u16),
-    Refused { number: u8, place: u8 },
 }
 
-// The same with the first window that falls short: its start, its ones, and the length of the stretch that was written.
-#[derive(Clone, Copy)]
+// What is refused: a giver or a wanted type that is not well formed.
+#[derive(Clone, Copy, Debug, PartialEq, Eq)]
+pub enum Refusal {
+    Giver,
+    Wanted,
+}
+
+// The verdict with the first window that falls short: its start, its ones, and the length of the stretch that was written. A refusal is one of the answers,
+// with its number and place, since document 01 shapes it so ("The decision is one of three things").
+#[derive(Clone, Copy, Debug, PartialEq, Eq)]
 pub enum Decision {
     Holds(u16),
     Fails { start: u32, ones: u16, length: u32 },
-    Refused { number: u8, place: u8 },
+    Refused { number: u8, place: Option<u8> },
 }
 
-// The place of a refusal that has none.
-const NO_PLACE: u8 = 255;
-
 // Whether `giver`, as `gives`, stands in for `wanted`, as `wants`.
-pub fn judge(gives: Kind, giver: SlotType, wants: Kind, wanted: SlotType) -> Verdict
+pub fn judge(
+    gives: Kind,
+    giver: SlotType,
+    wants: Kind,
+    wanted: SlotType,
+) -> Result<Verdict, Refusal>
     ensures { said result ≡ judged gives giver wants wanted }
 {
-    if !meaning::is_well_formed(giver) {
-        return Verdict::Refused {
-            number: 4,
-            place: 0,
-        };
-    }
-    if !meaning::is_well_formed(wanted) {
-        return Verdict::Refused {
-            number: 4,
-            place: 1,
-        };
-    }
-    let c = wanted.c;
-    let ones = least::least_ones(gives, giver, wants, wanted);
-    if c <= ones {
-        Verdict::Holds(ones)
-    } else {
-        Verdict::Short(ones)
-    }
+    Pair::new(gives, giver, wants, wanted).map(Pair::verdict)
 }
 
 // The same, and where it fails the allocation of the first window that falls short, as bytes 0 and 1 in `out`.
+#[tactic(auto, unfolding(crate::specs::Decision::decided, crate::specs::Decision::out_after))]
 pub fn decide(
     gives: Kind,
     giver: SlotType,
@@ -67,14 +61,21 @@ pub fn decide(
     ensures answer { said_of result ≡ decided gives giver wants wanted (length out.old) }
     ensures buffer { out.new ≡ out_after gives giver wants wanted out.old }
 {
-    match judge(gives, giver, wants, wanted) {
-        Verdict::Holds(least) => Decision::Holds(least),
-        Verdict::Refused { number, place } => Decision::Refused { number, place },
-        Verdict::Short(_) => allocation::fail(
-            giver,
-            wanted,
-            least::first_short(gives, giver, wants, wanted),
-            out,
-        ),
+    match Pair::new(gives, giver, wants, wanted) {
+        Err(Refusal::Giver) => Decision::Refused {
+            number: 4,
+            place: Some(0),
+        },
+        Err(Refusal::Wanted) => Decision::Refused {
+            number: 4,
+            place: Some(1),
+        },
+        Ok(pair) => match pair.verdict() {
+            Verdict::Holds(least) => Decision::Holds(least),
+            Verdict::Short(_) => {
+                let start = pair.first_short();
+                Window { pair, start }.show(out)
+            }
+        },
     }
 }

@@ -1,58 +1,60 @@
 // What the words of a case's line hand to a call: settings, supply bytes, decline words and room.
-ghost use Rattle.std.specs.Prelude.{◌≤◌, length};
-
 use dispatch::Setting;
+use std::alloc::{AllocError, Global};
 
-// Where the words after what is done begin.
-#[derive(Clone, Copy)]
-pub struct Words {
-    pub setting: usize,
-    pub supplies: usize,
-    pub declines: usize,
+#[derive(Drop)]
+pub struct Inputs<'a> {
+    pub settings: &'a [u8],
+    pub supplies: Vec<u8>,
+    pub declines: Vec<u64>,
     pub room: usize,
 }
 
-// The words of a line in which what is done begins at `at`.
-pub fn words_of(line: &[u8], at: usize) -> Words {
-    let setting = lines::past(line, at, b' ');
-    let supplies = lines::past(line, setting, b' ');
-    let declines = lines::past(line, supplies, b' ');
-    let room = lines::past(line, declines, b' ');
-    Words {
-        setting,
-        supplies,
-        declines,
-        room,
+// At most so many supply bytes and decline words are looked at.
+const MOST: usize = 64;
+
+impl<'a> Inputs<'a> {
+    // From the words, the first of which says what is done.
+    pub fn parse(alloc: Global, words: &'a [u8]) -> Result<Self, AllocError> {
+        let (_, rest) = lines::cut(words, b' ');
+        let (settings, rest) = lines::cut(rest, b' ');
+        let (supplies, rest) = lines::cut(rest, b' ');
+        let (declines, rest) = lines::cut(rest, b' ');
+        let (room, _) = lines::cut(rest, b' ');
+        Ok(Inputs {
+            settings,
+            supplies: supplies_in(alloc, supplies)?,
+            declines: declines_in(alloc, declines)?,
+            room: lines::number(room, 10) as usize,
+        })
     }
-}
 
-// The setting that `off` or `on` spells.
-pub fn setting(word: &[u8]) -> Setting {
-    on_if(lines::byte(word, 1) == b'n')
-}
+    // The setting of slot i, in a word with a digit for each: 0 off, 1 on.
+    pub fn setting_of(&self, i: usize) -> Setting {
+        on_if(self.settings.get(i) == Some(&b'1'))
+    }
 
-// The setting of slot i, in a word with a digit for each: 0 off, 1 on.
-pub fn setting_of(word: &[u8], i: usize) -> Setting {
-    on_if(lines::byte(word, i) == b'1')
+    // The setting of all slots, as `off` or `on` spells it.
+    pub fn setting(&self) -> Setting {
+        on_if(self.settings.get(1) == Some(&b'n'))
+    }
 }
 
 fn on_if(is: bool) -> Setting {
     if is { Setting::On } else { Setting::Off }
 }
 
-// Puts the numbers that the word's hex digits spell, a comma between two, at the start of `out`, and says how many they are: none for `-`.
-pub fn hex_words(word: &[u8], out: &mut [u64]) -> usize
-    ensures { result ≤ length out.new }
-{
-    let mut at: usize = 0;
-    let mut n: usize = 0;
-    while n < out.len() {
-        if lines::byte(word, at) < b'0' {
-            return n;
-        }
-        out[n] = lines::hex(word, at, b',');
-        at = lines::past(word, at, b',');
-        n += 1;
-    }
-    n
+fn supplies_in(alloc: Global, word: &[u8]) -> Result<Vec<u8>, AllocError> {
+    let mut bytes = [0; MOST];
+    let n = lines::bytes(word, &mut bytes);
+    bytes[..n].to_vec(alloc)
+}
+
+// The numbers that the word's hex digits spell, a comma between two: none for `-`.
+fn declines_in(alloc: Global, word: &[u8]) -> Result<Vec<u64>, AllocError> {
+    word.split(|c| *c <= b',')
+        .take_while(|digits| digits.first().is_some_and(|c| b'0' <= *c))
+        .take(MOST)
+        .map(|digits| lines::number(digits, 16))
+        .collect(alloc)
 }

@@ -10,56 +10,73 @@ mod leaves;
 mod mixed;
 mod show;
 
+use dispatch::State;
 use edits::Case;
+use inputs::Inputs;
+use lines::Lines;
+use plans::Plan;
 use std::io;
+use std::io::Read;
+
+// So many bytes of the input are looked at.
+const LOOKED_AT: u64 = 524_288;
 
 fn main(rt: HostRuntime) -> io::Result<()> {
-    let mut input = room();
-    let n = lines::read_full(&mut rt.reader(), &mut input)?;
-    every_case(&rt, &input[..n])
-}
-
-// Room for the whole input.
-fn room() -> [u8; 524288] {
-    [0; 524288]
-}
-
-fn every_case(rt: &impl Print, input: &[u8]) -> io::Result<()> {
-    let mut at: usize = 0;
-    while at < input.len() {
-        one_case(rt, lines::part(input, at, b'\n'))?;
-        at = lines::past(input, at, b'\n');
+    let mut input = Vec::new(rt.alloc());
+    rt.reader().take(LOOKED_AT).read_to_end(&mut input)?;
+    for line in Lines(&input) {
+        one_case(&rt, line)?;
     }
     Ok(())
 }
 
 // The case of a line.
-fn one_case(rt: &impl Print, line: &[u8]) -> io::Result<()> {
-    let digits = lines::past(line, 0, b' ');
-    let mut file = [0u8; 3072];
-    let plan = read(lines::part(line, digits, b' '), &mut file);
-    let state = dispatch::fresh(plan).state;
-    let next = lines::past(line, digits, b' ');
-    rt.write_all(lines::part(line, 0, b' '))?;
+fn one_case(rt: &(impl Print + AllocGlobal), line: &[u8]) -> io::Result<()> {
+    let (label, rest) = lines::cut(line, b' ');
+    let (digits, rest) = lines::cut(rest, b' ');
+    let plan = plan_of(digits);
+    let state = dispatch::fresh(plan).unwrap_or(ZERO_STATE);
+    let (case, words) = edits::edited(Case { plan, state }, rest);
+    rt.write_all(label)?;
     print!(rt; ": ")?;
-    call(rt, line, edits::all(line, Case { plan, state, next }))?;
+    call(rt, case, words)?;
     println!(rt; "")
 }
 
-// The plan value of a word of hex digits; `file` is room for its bytes.
-fn read(word: &[u8], file: &mut [u8]) -> plans::Plan {
-    let n = lines::bytes(word, file);
-    reader::read(&file[0..n]).plan
+// What stands for the state of a refused fresh start.
+const ZERO_STATE: State = State {
+    clock: 0,
+    left: [0; 64],
+};
+
+// The plan value of a word of hex digits, zeros where it is refused.
+fn plan_of(digits: &[u8]) -> Plan {
+    let mut room = [0; 3072];
+    let n = lines::bytes(digits, &mut room);
+    reader::read(&room[..n]).unwrap_or(plans::zero_plan())
 }
 
-// Makes the call that is asked for.
-fn call(rt: &impl Print, line: &[u8], case: Case) -> io::Result<()> {
-    let words = inputs::words_of(line, case.next);
-    match lines::byte(line, case.next) {
-        b'f' => calls::fresh(rt, case),
-        b's' => calls::steps(rt, line, case, words),
-        b'm' => mixed::mixed(rt, line, case, words),
-        b'd' => calls::run(rt, line, case, words, true),
-        _ => calls::run(rt, line, case, words, false),
+// Makes the call that the words ask for. For `mixed` and `demand`, the windows of each leaf are printed too.
+fn call(rt: &(impl Print + AllocGlobal), case: Case, words: &[u8]) -> io::Result<()> {
+    let inputs = Inputs::parse(rt.alloc(), words)?;
+    let task = words.first();
+    let mut room = [show::UNANSWERED; 512];
+    match task {
+        Some(b'f') => calls::fresh(rt, case),
+        Some(b's') => calls::steps(rt, case, &inputs),
+        _ => {
+            let Some(out) = room.get_mut(..inputs.room) else {
+                return Ok(());
+            };
+            if let Some(b'm') = task {
+                mixed::mixed(rt, case, &inputs, out)?;
+            } else {
+                calls::run(rt, case, &inputs, out)?;
+            }
+            if let Some(b'm' | b'd') = task {
+                leaves::all(rt, case.plan, out)?;
+            }
+            Ok(())
+        }
     }
 }

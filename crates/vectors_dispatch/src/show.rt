@@ -1,114 +1,68 @@
-// Prints outcomes, states and answers.
-ghost use Rattle.std.specs.Prelude.{◌≤◌};
+// Outcomes, states and answers as they are printed.
+use dispatch::{Refusal, Setting, State};
+use std::fmt;
 
-use dispatch::{Outcome, Ran, Setting, State, Stepped};
-use std::io;
+// What an answer not given is in a room.
+pub const UNANSWERED: u8 = 200;
 
-// The words, then n.
-pub fn number(rt: &impl Print, words: &[u8], n: u64) -> io::Result<()> {
-    rt.write_all(words)?;
-    print!(rt; "{n}")
-}
+// A call was done, or document 01's number of its refusal.
+#[derive(Drop)]
+pub struct Outcome(pub Option<Refusal>);
 
-pub fn ran(rt: &impl Print, ran: Ran, size: usize) -> io::Result<()> {
-    let end = ran.outcome;
-    let after = ran.state;
-    outcome(rt, end)?;
-    print!(rt; ", ")?;
-    state(rt, after, size)
-}
-
-// The outcome and the eight answers of a step.
-pub fn step(rt: &impl Print, stepped: Stepped) -> io::Result<()> {
-    let end = stepped.outcome;
-    let grants = stepped.grants;
-    print!(rt; "step ")?;
-    outcome(rt, end)?;
-    answers(rt, &grants, 8)?;
-    print!(rt; ", ")
-}
-
-pub fn setting(rt: &impl Print, s: Setting) -> io::Result<()> {
-    match s {
-        Setting::Off => print!(rt; "off"),
-        Setting::On => print!(rt; "on"),
-    }
-}
-
-// The outcome of a call that was named before.
-pub fn outcome_of(rt: &impl Print, o: Outcome) -> io::Result<()> {
-    print!(rt; " ")?;
-    outcome(rt, o)?;
-    print!(rt; ", ")
-}
-
-fn outcome(rt: &impl Print, o: Outcome) -> io::Result<()> {
-    match o {
-        Outcome::Done => print!(rt; "done"),
-        Outcome::Beyond => print!(rt; "refused 15"),
-        Outcome::Unfit => print!(rt; "refused 16"),
-        Outcome::Misfit => print!(rt; "refused 17"),
-    }
-}
-
-// The clock, the counts of `size` nodes, and those after them up to the last that is not 0.
-pub fn state(rt: &impl Print, s: State, size: usize) -> io::Result<()> {
-    let left = s.left;
-    number(rt, b"clock ", s.clock)?;
-    print!(rt; ", left")?;
-    counts(rt, &left, end_of(&left, size))
-}
-
-fn end_of(left: &[u16; 64], size: usize) -> usize
-    ensures { result ≤ 64 }
-{
-    let mut n: usize = 64;
-    while size < n {
-        if left[n - 1] != 0 {
-            return n;
+impl fmt::Display for Outcome {
+    fn fmt<W: fmt::Write>(&self, f: &mut fmt::Formatter<W>) -> fmt::Result {
+        match self.0 {
+            None => write!(f, "done"),
+            Some(Refusal::Beyond) => write!(f, "refused 15"),
+            Some(Refusal::Unfit) => write!(f, "refused 16"),
+            Some(Refusal::Misfit) => write!(f, "refused 17"),
         }
-        n -= 1;
-    }
-    n
-}
-
-fn counts(rt: &impl Print, left: &[u16; 64], n: usize) -> io::Result<()>
-    requires { n ≤ 64 }
-{
-    for i in 0..n {
-        count(rt, left[i])?;
-    }
-    Ok(())
-}
-
-fn count(rt: &impl Print, n: u16) -> io::Result<()> {
-    number(rt, b" ", n as u64)
-}
-
-// Each answer after a space or, within a slot, after a comma.
-pub fn answers(rt: &impl Print, out: &[u8], cores: usize) -> io::Result<()> {
-    for i in 0..out.len() {
-        before(rt, i, cores)?;
-        answer(rt, out[i])?;
-    }
-    Ok(())
-}
-
-fn before(rt: &impl Print, i: usize, cores: usize) -> io::Result<()> {
-    if cores == 0 {
-        print!(rt; " ")
-    } else if i % cores == 0 {
-        print!(rt; " ")
-    } else {
-        print!(rt; ",")
     }
 }
 
-fn answer(rt: &impl Print, a: u8) -> io::Result<()> {
-    match a {
-        254 => print!(rt; "-"),
-        255 => print!(rt; "x"),
-        200 => print!(rt; "."),
-        _ => number(rt, b"", a as u64),
+pub fn name_of(setting: Setting) -> &'static str {
+    match setting {
+        Setting::Off => "off",
+        Setting::On => "on",
+    }
+}
+
+// A state: the clock, the counts of so many nodes, and those after them up to the last that is not 0.
+#[derive(Drop)]
+pub struct Standing(pub State, pub usize);
+
+impl fmt::Display for Standing {
+    fn fmt<W: fmt::Write>(&self, f: &mut fmt::Formatter<W>) -> fmt::Result {
+        let State { clock, left } = self.0;
+        write!(f, "clock {clock}, left")?;
+        for n in left.iter().take(end_of(&left).max(self.1)) {
+            write!(f, " {n}")?;
+        }
+        Ok(())
+    }
+}
+
+// Where the counts end that are not 0.
+fn end_of(left: &[u16; 64]) -> usize {
+    left.iter().rposition(|n| *n != 0).map_or(0, |i| i + 1)
+}
+
+// Answers for so many cores, each after a space or, within a slot, after a comma.
+#[derive(Drop)]
+pub struct Answers<'a>(pub &'a [u8], pub usize);
+
+impl fmt::Display for Answers<'_> {
+    fn fmt<W: fmt::Write>(&self, f: &mut fmt::Formatter<W>) -> fmt::Result {
+        for (i, answer) in self.0.iter().enumerate() {
+            let begins = self.1 == 0 || i % self.1 == 0;
+            write!(f, "{}", if begins { " " } else { "," })?;
+            match *answer {
+                254 => write!(f, "-")?,
+                255 => write!(f, "x")?,
+                UNANSWERED => write!(f, ".")?,
+                leaf => write!(f, "{leaf}")?,
+            }
+        }
+        Ok(())
     }
 }

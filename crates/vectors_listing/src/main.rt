@@ -4,81 +4,60 @@
 // `python3 tools/listing.py plans` makes its input.
 #![tactic(auto)]
 
-use listing::Listed;
+use lines::Lines;
+use listing::Short;
 use std::io;
+use std::io::Read;
+
+// So many bytes of the input are looked at.
+const LOOKED_AT: u64 = 65_536;
+
+// A byte that no listing has.
+const UNWRITTEN: u8 = 255;
 
 fn main(rt: HostRuntime) -> io::Result<()> {
-    let mut input = [0u8; 65536];
-    let n = lines::read_full(&mut rt.reader(), &mut input)?;
-    let mut plan = [0u8; 4096];
-    let mut room = [0u8; 4096];
-    every_plan(&rt, &input[..n], &mut plan, &mut room)
-}
-
-fn every_plan(rt: &impl Print, input: &[u8], plan: &mut [u8], room: &mut [u8]) -> io::Result<()> {
-    let mut at: usize = 0;
-    while at < input.len() {
-        one_plan(rt, lines::part(input, at, b'\n'), plan, room)?;
-        at = lines::past(input, at, b'\n');
+    let mut input = Vec::new(rt.alloc());
+    rt.reader().take(LOOKED_AT).read_to_end(&mut input)?;
+    for line in Lines(&input) {
+        one_plan(&rt, line)?;
     }
     Ok(())
 }
 
-// The plan of a line. `plan` is room for its bytes, `room` for its listing.
-fn one_plan(rt: &impl Print, line: &[u8], plan: &mut [u8], room: &mut [u8]) -> io::Result<()> {
-    let digits = lines::past(line, 0, b' ');
-    let n = lines::bytes(lines::part(line, digits, b' '), plan);
-    rt.write_all(lines::part(line, 0, b' '))?;
+// The plan of a line.
+fn one_plan(rt: &impl Print, line: &[u8]) -> io::Result<()> {
+    let (label, rest) = lines::cut(line, b' ');
+    let (digits, _) = lines::cut(rest, b' ');
+    let mut plan = [0; 4096];
+    let n = lines::bytes(digits, &mut plan);
+    rt.write_all(label)?;
     println!(rt; ":")?;
-    list(rt, &plan[0..n], room)
+    list(rt, &plan[..n], &mut [0; 4096])
 }
 
 fn list(rt: &impl Print, plan: &[u8], room: &mut [u8]) -> io::Result<()> {
     match listing::list(plan, room) {
-        Listed::Written(n) => {
-            rt.write_all(&room[0..n])?;
-            list_short(rt, plan, &mut room[0..n])
+        Ok(n) => {
+            rt.write_all(&room[..n])?;
+            if 0 < n {
+                list_short(rt, plan, &mut room[..n - 1])?;
+            }
+            Ok(())
         }
-        Listed::Short => println!(rt; "too little room"),
+        Err(Short) => println!(rt; "too little room"),
     }
 }
 
-// The same in a room that is one byte short of this one.
+// The same in a room that is one byte short.
 fn list_short(rt: &impl Print, plan: &[u8], room: &mut [u8]) -> io::Result<()> {
-    let n = room.len();
-    if 0 < n {
-        fill(room);
-        try_in(rt, plan, &mut room[0..n - 1])?;
-    }
-    Ok(())
-}
-
-fn try_in(rt: &impl Print, plan: &[u8], room: &mut [u8]) -> io::Result<()> {
+    room.fill(UNWRITTEN);
     match listing::list(plan, room) {
-        Listed::Written(_) => print!(rt; "one byte short: written")?,
-        Listed::Short => print!(rt; "one byte short: refused 17")?,
+        Ok(_) => print!(rt; "one byte short: written")?,
+        Err(Short) => print!(rt; "one byte short: refused 17")?,
     }
-    if is_filled(room) {
+    if room.iter().all(|byte| *byte == UNWRITTEN) {
         println!(rt; ", nothing written")
     } else {
         println!(rt; ", something written")
     }
-}
-
-// Fills a room with a byte that no listing has.
-fn fill(room: &mut [u8]) {
-    let mut i: usize = 0;
-    while i < room.len() {
-        room[i] = 255;
-        i += 1;
-    }
-}
-
-fn is_filled(room: &[u8]) -> bool {
-    for i in 0..room.len() {
-        if room[i] != 255 {
-            return false;
-        }
-    }
-    true
 }

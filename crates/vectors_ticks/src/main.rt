@@ -2,11 +2,11 @@
 // What it must print is worked out by tools/times.py from the sentences of document 01, "Slot times".
 #![tactic(auto)]
 
-use std::io;
-use ticks::{Answer, Tick};
+use std::{fmt, io};
+use ticks::{Refusal, Tick};
 
 // 2^40, the last slot and the last time.
-const LAST: u64 = 1099511627776;
+const LAST: u64 = 1 << 40;
 
 fn main(rt: HostRuntime) -> io::Result<()> {
     starred(&rt)?;
@@ -19,117 +19,138 @@ fn main(rt: HostRuntime) -> io::Result<()> {
 
 // The two times that document 01 stars, with their neighbours.
 fn starred(rt: &impl Print) -> io::Result<()> {
-    show_start(rt, 1000, 3, 2)?;
-    show_start(rt, 1000, 3, 3)?;
-    show_slot(rt, 1000, 3, 999)?;
-    show_slot(rt, 1000, 3, 1000)
+    let tick = Tick { p: 1000, q: 3 };
+    for n in [2, 3] {
+        show(rt, "start", ticks::start, tick, n)?;
+    }
+    for t in [999, 1000] {
+        show(rt, "slot", ticks::slot, tick, t)?;
+    }
+    Ok(())
 }
 
 // Where slots are shorter than a microsecond, several begin in the same one.
 fn rounded_down(rt: &impl Print) -> io::Result<()> {
-    show_start(rt, 1, 3, 2)?;
-    show_start(rt, 1, 3, 3)?;
-    show_slot(rt, 1, 3, 0)?;
-    show_slot(rt, 1, 3, 1)?;
-    show_start(rt, 2, 3, 2)?;
-    show_slot(rt, 2, 3, 1)?;
-    show_slot(rt, 2, 3, 2)
+    let third = Tick { p: 1, q: 3 };
+    for n in [2, 3] {
+        show(rt, "start", ticks::start, third, n)?;
+    }
+    for t in [0, 1] {
+        show(rt, "slot", ticks::slot, third, t)?;
+    }
+    let two_thirds = Tick { p: 2, q: 3 };
+    show(rt, "start", ticks::start, two_thirds, 2)?;
+    for t in [1, 2] {
+        show(rt, "slot", ticks::slot, two_thirds, t)?;
+    }
+    Ok(())
 }
 
 // The last start in minute 0 and the first in minute 1. With 1000/3, a length rounded to 333 would leave slot 180,000 in minute 0.
 fn around_a_minute(rt: &impl Print) -> io::Result<()> {
-    show_begins(rt, 1, 1, 59999999)?;
-    show_begins(rt, 1, 1, 60000000)?;
-    show_begins(rt, 1, 3, 179999999)?;
-    show_begins(rt, 1, 3, 180000000)?;
-    show_begins(rt, 1000, 3, 179999)?;
-    show_begins(rt, 1000, 3, 180000)
+    for (p, q, n) in [
+        (1, 1, 59_999_999),
+        (1, 1, 60_000_000),
+        (1, 3, 179_999_999),
+        (1, 3, 180_000_000),
+        (1000, 3, 179_999),
+        (1000, 3, 180_000),
+    ] {
+        show_begins(rt, Tick { p, q }, n)?;
+    }
+    Ok(())
 }
 
 // Answers just within 2^40 and just beyond.
 fn around_the_last(rt: &impl Print) -> io::Result<()> {
-    show_begins(rt, 2, 1, 549755813888)?;
-    show_begins(rt, 2, 1, 549755813889)?;
-    show_begins(rt, 1000000, 999999, 1099510528265)?;
-    show_begins(rt, 1000000, 999999, 1099510528266)?;
-    show_slot(rt, 1, 2, 549755813887)?;
-    show_slot(rt, 1, 2, 549755813888)?;
-    show_slot(rt, 999999, 1000000, 1099510528264)?;
-    show_slot(rt, 999999, 1000000, 1099510528265)
+    for (p, q, n) in [
+        (2, 1, 549_755_813_888),
+        (2, 1, 549_755_813_889),
+        (1_000_000, 999_999, 1_099_510_528_265),
+        (1_000_000, 999_999, 1_099_510_528_266),
+    ] {
+        show_begins(rt, Tick { p, q }, n)?;
+    }
+    for (p, q, t) in [
+        (1, 2, 549_755_813_887),
+        (1, 2, 549_755_813_888),
+        (999_999, 1_000_000, 1_099_510_528_264),
+        (999_999, 1_000_000, 1_099_510_528_265),
+    ] {
+        show(rt, "slot", ticks::slot, Tick { p, q }, t)?;
+    }
+    Ok(())
 }
 
 // The first and the last number of a tick's range, slots longer and shorter than a microsecond.
 fn fit_ticks(rt: &impl Print) -> io::Result<()> {
-    edges(rt, 1, 1)?;
-    edges(rt, 1000000, 1000000)?;
-    edges(rt, 1000000, 1)?;
-    edges(rt, 1, 1000000)?;
-    edges(rt, 1000, 3)?;
-    edges(rt, 3, 1000)
+    for (p, q) in [
+        (1, 1),
+        (1_000_000, 1_000_000),
+        (1_000_000, 1),
+        (1, 1_000_000),
+        (1000, 3),
+        (3, 1000),
+    ] {
+        for n in [0, 1, LAST, LAST + 1, u64::MAX] {
+            show_all(rt, Tick { p, q }, n)?;
+        }
+    }
+    Ok(())
 }
 
-fn edges(rt: &impl Print, p: u32, q: u32) -> io::Result<()> {
-    show_all(rt, p, q, 0)?;
-    show_all(rt, p, q, 1)?;
-    show_all(rt, p, q, LAST)?;
-    show_all(rt, p, q, LAST + 1)?;
-    show_all(rt, p, q, 18446744073709551615)
-}
-
-// P or Q just out of its range, or far out.
+// P or Q just out of its range, or far out. The second slot is at fault too, and 16 comes before 15.
 fn unfit_ticks(rt: &impl Print) -> io::Result<()> {
-    unfit(rt, 0, 1)?;
-    unfit(rt, 1, 0)?;
-    unfit(rt, 0, 0)?;
-    unfit(rt, 1000001, 1)?;
-    unfit(rt, 1, 1000001)?;
-    unfit(rt, 4294967295, 4294967295)
+    for (p, q) in [
+        (0, 1),
+        (1, 0),
+        (0, 0),
+        (1_000_001, 1),
+        (1, 1_000_001),
+        (u32::MAX, u32::MAX),
+    ] {
+        for n in [1, LAST + 1] {
+            show_all(rt, Tick { p, q }, n)?;
+        }
+    }
+    Ok(())
 }
 
-// The slot of the second is at fault too, and 16 comes before 15.
-fn unfit(rt: &impl Print, p: u32, q: u32) -> io::Result<()> {
-    show_all(rt, p, q, 1)?;
-    show_all(rt, p, q, LAST + 1)
-}
-
-fn show_all(rt: &impl Print, p: u32, q: u32, n: u64) -> io::Result<()> {
-    show_begins(rt, p, q, n)?;
-    show_slot(rt, p, q, n)
+fn show_all(rt: &impl Print, tick: Tick, n: u64) -> io::Result<()> {
+    show_begins(rt, tick, n)?;
+    show(rt, "slot", ticks::slot, tick, n)
 }
 
 // When a slot begins: its microsecond and its minute.
-fn show_begins(rt: &impl Print, p: u32, q: u32, n: u64) -> io::Result<()> {
-    show_start(rt, p, q, n)?;
-    show_minute(rt, p, q, n)
+fn show_begins(rt: &impl Print, tick: Tick, n: u64) -> io::Result<()> {
+    show(rt, "start", ticks::start, tick, n)?;
+    show(rt, "minute", ticks::minute, tick, n)
 }
 
-fn show_start(rt: &impl Print, p: u32, q: u32, n: u64) -> io::Result<()> {
-    ask(rt, b"start ", p, q, n)?;
-    let tick = Tick { p: p, q: q };
-    tell(rt, ticks::start(tick, n))
+// What a call, which has this name, answers about n.
+fn show<F: Fn(Tick, u64) -> Result<u64, Refusal> + Drop>(
+    rt: &impl Print,
+    name: &str,
+    call: F,
+    tick: Tick,
+    n: u64,
+) -> io::Result<()>
+    requires { F.IsAlwaysCallable call }
+{
+    let Tick { p, q } = tick;
+    let answer = Answer(call(tick, n));
+    println!(rt; "{name} {p}/{q} of {n}: {answer}")
 }
 
-fn show_minute(rt: &impl Print, p: u32, q: u32, n: u64) -> io::Result<()> {
-    ask(rt, b"minute ", p, q, n)?;
-    let tick = Tick { p: p, q: q };
-    tell(rt, ticks::minute(tick, n))
-}
+// What a call answers, in document 01's numbers.
+#[derive(Drop)]
+struct Answer(Result<u64, Refusal>);
 
-fn show_slot(rt: &impl Print, p: u32, q: u32, t: u64) -> io::Result<()> {
-    ask(rt, b"slot ", p, q, t)?;
-    let tick = Tick { p: p, q: q };
-    tell(rt, ticks::slot(tick, t))
-}
-
-fn ask(rt: &impl Print, call: &[u8], p: u32, q: u32, n: u64) -> io::Result<()> {
-    rt.write_all(call)?;
-    print!(rt; "{p}/{q} of {n}: ")
-}
-
-fn tell(rt: &impl Print, a: Answer) -> io::Result<()> {
-    match a {
-        Answer::Number(v) => println!(rt; "{v}"),
-        Answer::Beyond => println!(rt; "refused 15"),
-        Answer::Unfit => println!(rt; "refused 16"),
+impl fmt::Display for Answer {
+    fn fmt<W: fmt::Write>(&self, f: &mut fmt::Formatter<W>) -> fmt::Result {
+        match self.0 {
+            Ok(number) => write!(f, "{number}"),
+            Err(refusal) => write!(f, "refused {}", refusal.number()),
+        }
     }
 }

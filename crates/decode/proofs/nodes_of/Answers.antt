@@ -1,13 +1,10 @@
--- `decode::nodes_of` meets its contract. The invariant: the array is filled up to i. Assumes nothing.
-use borrow.Author.Rules.{rules}
-use Rattle.decode.proofs.Filled.{filled_none, filled_more, filled_done}
+-- `decode::nodes_of` meets its contract. Assumes nothing.
+use Rattle.std.proofs.Common.{rules, tests}
+use Rattle.plans.specs.Plan.{zero_node}
+use Rattle.decode.specs.Positions.{size_of}
+use Rattle.decode.specs.Decode.{node_of}
+use Rattle.decode.proofs.Made.{made_filled}
 use Rattle.decode.proofs.nodes_of.Goals as goal
 
-pub loop-i-init : goal.loop-i-init
-loop-i-init c = search (rules, filled_none)
-
-pub loop-i-preserved : goal.loop-i-preserved
-loop-i-preserved c = search (rules, filled_more)
-
 pub returns : goal.returns
-returns c = search filled_done
+returns c = made_filled (node_of c.args.s.now) 64 zero_node (size_of c.args.s.now) c.from_fn.ensures.items (λ i x q k. search (rules, tests))

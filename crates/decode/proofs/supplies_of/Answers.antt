@@ -1,14 +1,11 @@
--- `decode::supplies_of` meets its contract. The invariant: the array is filled up to i. Assumes nothing.
-use borrow.Author.Rules.{rules}
-use Rattle.decode.proofs.Bytes.{supply_read}
-use Rattle.decode.proofs.Filled.{filled_none, filled_more, filled_done}
+-- `decode::supplies_of` meets its contract. Assumes nothing.
+use Rattle.std.proofs.Common.{rules, tests}
+use Rattle.plans.specs.Plan.{zero_type}
+use Rattle.decode.specs.Positions.{cores_of, supply_start}
+use Rattle.decode.specs.Decode.{supply_of}
+use Rattle.decode.proofs.Made.{made_filled}
 use Rattle.decode.proofs.supplies_of.Goals as goal
 
-pub loop-i-init : goal.loop-i-init
-loop-i-init c = search (rules, filled_none)
-
-pub loop-i-preserved : goal.loop-i-preserved
-loop-i-preserved c = search (rules, filled_more, supply_read)
-
 pub returns : goal.returns
-returns c = search filled_done
+unfolding supply_of supply_start
+returns c = made_filled (supply_of c.args.s.now) 8 zero_type (cores_of c.args.s.now) c.from_fn.ensures.items (λ i x q k. search (rules, tests))

@@ -1,19 +1,9 @@
--- `names::is_new` meets its contract. The invariant: none of the names passed is the same. Assumes nothing.
-use borrow.Author.Rules.{rules}
-use Rattle.plans.proofs.All.{all_none, all_done}
-use Rattle.names.specs.Names.{is_new}
-use Rattle.names.proofs.Same.{new_more, new_stop}
+-- `names::is_new` compares name i with each before it.
+use Rattle.std.proofs.Common.{rules, tests}
+use Rattle.names.specs.Names.{differs, is_new}
+use Rattle.plans.proofs.All.{all_of_range}
 use Rattle.names.proofs.is_new.Goals as goal
 
-pub loop-j-init : goal.loop-j-init
-loop-j-init c = search (rules, all_none)
-
-pub returns-then-is_same : goal.returns-then-is_same
-returns-then-is_same c = search new_stop
-
-pub loop-j-preserved : goal.loop-j-preserved
-loop-j-preserved c = search (rules, new_more)
-
 pub returns : goal.returns
-unfolding is_new
-returns c = search all_done
+unfolding is_new differs
+returns c = all_of_range (differs c.args.s.now c.args.i) _ c.all.ensures.ran (search rules) (λ j r q k. search (rules, tests))

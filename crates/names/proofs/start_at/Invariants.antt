@@ -1,11 +1,7 @@
--- `names::start_at` meets its contract. The invariant: k is where name j begins. Assumes nothing.
-use Prim.Native.Nat.{◌+◌, ◌*◌, ◌-◌, ◌≤◌}
-use mathlib.Core.Path.{◌≡◌}
+-- Where the names so far begin: k is where name j does, after j turns.
+use Rattle.std.proofs.Common.{◌≡◌, ◌+◌, ◌*◌, ◌≤◌}
 use Rattle.decode.specs.Positions.{name_start}
 use Rattle.names.proofs.start_at.Given as goal
 
-abbrev pub invariant-loop-j : goal.invariant-loop-j
-invariant-loop-j l = (l.j ≤ l.i) × (l.k ≡ name_start l.s l.j) × (l.k ≤ 4610 + 256 * l.j)
-
-abbrev pub decreases-loop-j : goal.decreases-loop-j
-decreases-loop-j l = l.i - l.j
+abbrev pub invariant-loop : goal.invariant-loop
+invariant-loop l = (l.k ≡ name_start l.s l.counter) × (l.k ≤ 4610 + 256 * l.counter)

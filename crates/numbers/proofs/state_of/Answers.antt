@@ -1,24 +1,26 @@
--- `numbers::state_of` meets its contract. The invariant: the counts passed are within their field, and in the array. Assumes nothing.
-use borrow.Author.Rules.{rules}
-use mathlib.Core.Path.{refl}
-use Rattle.plans.proofs.All.{all_none}
-use Rattle.decode.proofs.Filled.{filled_none, filled_more}
-use Rattle.numbers.specs.Numbers.{count_in}
-use Rattle.numbers.proofs.Counts.{state_short, count_stop, count_more, counts_done}
+-- `numbers::state_of` meets its contract. Assumes nothing.
+use mathlib.Core.Path.{sym, ap, ◌∙◌}
+use native.Mathlib.Omega.{arith}
+use Rattle.numbers.specs.Numbers.{given, count_in, is_count_at}
+use Rattle.numbers.proofs.Fields.{fit_some, fit_none}
+use Rattle.numbers.proofs.Counts.{state_short, counts_stop, counts_done, counts_many, count_read}
 use Rattle.numbers.proofs.state_of.Goals as goal
 
-pub returns-then-xs-ne65 : goal.returns-then-xs-ne65
-returns-then-xs-ne65 c = search state_short
+pub returns-in_default : goal.returns-in_default
+returns-in_default c = state_short c.args.xs.now (λ e. omega arith)
 
-pub loop-i-init : goal.loop-i-init
-loop-i-init c = search (rules, all_none, filled_none)
+pub returns-then-counts-ne64 : goal.returns-then-counts-ne64
+returns-then-counts-ne64 c = state_short c.args.xs.now (λ e. c.if-counts-ne64.true (omega (arith, counts_many c.args.xs.now)))
 
-pub returns-then-count-gt65535 : goal.returns-then-count-gt65535
-returns-then-count-gt65535 c = search count_stop
-
-pub loop-i-preserved : goal.loop-i-preserved
-unfolding count_in
-loop-i-preserved c = search (rules, count_more, filled_more, refl)
+pub returns-in_err-each_of : goal.returns-in_err-each_of
+returns-in_err-each_of c =
+    let many = counts_many c.args.xs.now in
+    let said = c.each_of.ensures (is_count_at c.args.xs.now) (count_in c.args.xs.now) (count_read c.args.xs.now) in
+    ap given c.from_residual.ensures ∙ counts_stop c.args.xs.now (omega arith) (fit_none _ _ (sym said ∙ c.in_err-each_of.was))
 
 pub returns : goal.returns
-returns c = search counts_done
+returns c =
+    let many = counts_many c.args.xs.now in
+    let said = c.each_of.ensures (is_count_at c.args.xs.now) (count_in c.args.xs.now) (count_read c.args.xs.now) in
+    let some = fit_some _ _ _ (sym said ∙ c.in_ok-each_of.was) in
+    counts_done c.args.xs.now (omega arith) some.0 _ some.1

@@ -1,28 +1,14 @@
--- `ticks::slot` meets its contract: one law a return. Assumes nothing.
-use Prim.Native.Nat.{◌<◌}
-use native.Mathlib.Omega.{arith}
-use Rattle.ticks.proofs.Arithmetic.{add_one_mul}
-use Rattle.ticks.proofs.Answers.{one_more, p_positive, q_positive, times_q}
-use Rattle.ticks.proofs.Kept.{slot_refused, slot_found}
+-- `ticks::slot` meets its contract: the closed form says what the sentence does. Assumes nothing.
+use Rattle.std.proofs.Common.{arith}
+use Rattle.std.proofs.lemmas.Grind.{common_steps}
+use Rattle.ticks.specs.Times.{timed, limited}
+use Rattle.ticks.proofs.Kept.{closed_form_said}
 use Rattle.ticks.proofs.slot.Goals as goal
 
-pub returns-in_default : goal.returns-in_default
-returns-in_default c = search (slot_refused, c.in_default.not-Number)
-
-pub overflow_add-t : goal.overflow_add-t
-overflow_add-t c = search one_more
-
-pub overflow_mul-t : goal.overflow_mul-t
-overflow_mul-t c = search times_q
-
-pub overflow_sub-t : goal.overflow_sub-t
-overflow_sub-t c =
-    let given = c.args in
-    let positive : 0 < given.tick.q = search q_positive in
-    omega (arith, add_one_mul given.t given.tick.q)
-
-pub nonzero_div-t : goal.nonzero_div-t
-nonzero_div-t c = search p_positive
+pub returns-in_err-t : goal.returns-in_err-t
+unfolding timed limited
+returns-in_err-t c = (closed_form_said _ _ _).1 (grind (arith, common_steps))
 
 pub returns : goal.returns
-returns c = search slot_found
+unfolding timed limited
+returns c = (closed_form_said _ _ _).1 (grind (arith, common_steps))

@@ -1,17 +1,9 @@
--- `dispatch::walks::serve` meets its contract. The invariant: the cores passed are served. Assumes nothing.
-use borrow.Author.Rules.{rules}
-use Rattle.dispatch.proofs.Counting.{core_place}
-use Rattle.dispatch.proofs.Walking.{serve_none, serve_more, serve_done}
+-- Past the last core it is the slot. Assumes nothing.
+use native.Mathlib.Omega.{arith}
+use Rattle.dispatch.proofs.Walking.{serve_done}
 use Rattle.dispatch.proofs.walks.serve.Goals as goal
 
-pub loop-s-init : goal.loop-s-init
-loop-s-init c = search (rules, serve_none)
-
-pub serve_core-so-requires : goal.serve_core-so-requires
-serve_core-so-requires c = search (rules, core_place)
-
-pub loop-s-preserved : goal.loop-s-preserved
-loop-s-preserved c = search (rules, serve_more)
-
-pub returns : goal.returns
-returns c = search serve_done
+pub returns-clause-slot : goal.returns-clause-slot
+returns-clause-slot c =
+    serve_done _ c.args.plan c.new-round.result c.new-round.ensures.plan _ _ _ _ _ c.refill.ensures c.new-round.ensures.tells _ _ c.loop-s.invariant.served
+    (omega arith) (omega arith)

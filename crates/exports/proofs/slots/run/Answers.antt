@@ -1,16 +1,23 @@
--- `exports::slots::run` meets its contract: one law a return and a buffer. Assumes nothing.
-use borrow.Author.Tests.{not-true, not-false}
-use Rattle.exports.proofs.Giving.{run_unfit, room_unfit, run_given, room_given}
+-- `exports::slots::run` meets its contract. Assumes nothing.
+use mathlib.Core.Bool.{true}
+use mathlib.Core.Path.{◌≡◌}
+use lib.ListN.{length}
+use native.Mathlib.Omega.{arith}
+use Rattle.std.proofs.lemmas.Grind.{common_steps}
+use Rattle.dispatch.specs.Run.{done, standing}
+use Rattle.numbers.specs.Numbers.{state_given}
+use Rattle.numbers.proofs.Down.{state_down}
+use Rattle.exports.specs.Exports.{by_numbers, ran_by, out_by, are_whole, running}
+use Rattle.exports.proofs.Giving.{whole_state}
 use Rattle.exports.proofs.slots.run.Goals as goal
 
-pub returns-then-not-given-clause-result : goal.returns-then-not-given-clause-result
-returns-then-not-given-clause-result c = search (run_unfit, not-true)
-
-pub returns-then-not-given-clause-buffer : goal.returns-then-not-given-clause-buffer
-returns-then-not-given-clause-buffer c = search (room_unfit, not-true)
-
-pub returns-clause-result : goal.returns-clause-result
-returns-clause-result c = search (run_given, not-false)
-
-pub returns-clause-buffer : goal.returns-clause-buffer
-returns-clause-buffer c = search (room_given, not-false)
+pub returns : goal.returns
+unfolding ran_by out_by by_numbers state_given running
+returns c =
+    let whole : are_whole c.args.plan.now c.args.state.now ≡ true = grind (arith, common_steps) in
+    let is : ran_by c.args.setting c.args.plan.now c.args.state.now c.args.supplies.now c.args.declines.now (length c.args.out.now) ≡
+    record { outcome = done; state = standing c.run.new.state } = grind (arith, common_steps) in
+    let room : c.run.new.out ≡ out_by c.args.setting c.args.plan.now c.args.state.now c.args.supplies.now c.args.declines.now c.args.out.now =
+    grind (arith, common_steps) in
+    let down = state_down c.run.new.state c.args.state.now (whole_state c.args.plan.now c.args.state.now whole) _ _ c.put_state.ensures in
+    rw (whole, is, room, down)

@@ -1,6 +1,0 @@
--- `lines::hex` meets its contract: the number is that of the part. Assumes nothing.
-use Rattle.lines.proofs.Digits.{number_same}
-use Rattle.lines.proofs.hex.Goals as goal
-
-pub returns : goal.returns
-returns c = search number_same

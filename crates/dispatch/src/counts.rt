@@ -14,7 +14,7 @@ impl FitPlan {
     {
         let mut full = [0; 64];
         for i in 0..self.plan.size {
-            full[i] = plans::node_at(self.plan, i).served.c;
+            full[i] = plans::node_at(&self.plan, i).served.c;
         }
         full
     }
@@ -26,7 +26,7 @@ impl FitPlan {
     {
         for i in 0..self.plan.size {
             if self.is_due(n, i) {
-                left[i] = plans::node_at(self.plan, i).served.c;
+                left[i] = plans::node_at(&self.plan, i).served.c;
             }
         }
     }
@@ -37,7 +37,7 @@ impl FitPlan {
         requires { i < self.now.plan.size }
         ensures { result ≡ due (view_of self.now.plan) n i }
     {
-        n % u64::from(plans::node_at(self.plan, i).served.t) == 0
+        n % u64::from(plans::node_at(&self.plan, i).served.t) == 0
     }
 
     // Whether no node has more left than its served C.
@@ -45,6 +45,6 @@ impl FitPlan {
     pub fn are_within(&self, left: &[u16; 64]) -> bool
         ensures { IsTrue result ↔ ((i : ℕ) → i < self.now.plan.size → get_or left.now i 0 ≤ served_c self.now.plan i) }
     {
-        (0..self.plan.size).all(|i| left[i] <= plans::node_at(self.plan, i).served.c)
+        (0..self.plan.size).all(|i| left[i] <= plans::node_at(&self.plan, i).served.c)
     }
 }

@@ -33,7 +33,7 @@ impl Round {
         requires { i < self.now.plan.plan.size }
         ensures { WithBits self.now.takers (λ h. eligible (view_of self.now.plan.plan) left.now (passed_by self.now) (Under h) i) result }
     {
-        let Parent::Node(host) = plans::node_at(self.plan.plan, i).parent else {
+        let Parent::Node(host) = plans::node_at(&self.plan.plan, i).parent else {
             return self.takers;
         };
         if self.takes(left, i) {

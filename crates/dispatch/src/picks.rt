@@ -43,7 +43,7 @@ impl Round {
     fn period(&self, i: usize) -> u16
         ensures { result ≡ served_t self.now.plan.plan i }
     {
-        plans::node_at(self.plan.plan, i).served.t
+        plans::node_at(&self.plan.plan, i).served.t
     }
 
     #[tactic(auto, unfolding(crate::specs::Choice::eligible, plans::specs::Plan::is_child))]
@@ -51,7 +51,7 @@ impl Round {
         requires { i < 64 }
         ensures { result ≡ eligible (view_of self.now.plan.plan) left.now (passed_by self.now) x i }
     {
-        plans::is_child(self.plan.plan, x, i) && self.takes(left, i)
+        plans::is_child(&self.plan.plan, x, i) && self.takes(left, i)
     }
 
     // Whether node i has slots left and is not passed over.
@@ -68,7 +68,7 @@ impl Round {
         requires { i < 64 }
         ensures { result ≡ passed_by self.now i }
     {
-        if plans::is_host(self.plan.plan, i) {
+        if plans::is_host(&self.plan.plan, i) {
             !is_set(self.takers, i)
         } else {
             is_set(self.declines, i)

@@ -54,7 +54,7 @@ impl Round {
             return IDLE;
         };
         left[i] -= 1;
-        if plans::is_host(self.plan.plan, i) {
+        if plans::is_host(&self.plan.plan, i) {
             self.walk(levels - 1, Parent::Node(i as u8), left)
         } else {
             i as u8

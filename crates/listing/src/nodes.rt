@@ -30,7 +30,7 @@ impl Accepted {
     {
         put_head(page, i, reader::name(s, i));
         page.put_marked(depth_of(self.plan, i), b' ');
-        put_type(page, plans::node_at(self.plan, i).served);
+        put_type(page, plans::node_at(&self.plan, i).served);
         page.put_marked(self.least_of(i) as u64, b'\n');
     }
 
@@ -39,7 +39,7 @@ impl Accepted {
         requires { i < self.plan.size }
         ensures { result ≡ least_of self.plan i }
     {
-        let node = plans::node_at(self.plan, i);
+        let node = plans::node_at(&self.plan, i);
         let kind = plans::wanted_as(node.kind);
         match types::judge(Kind::Aligned, node.served, kind, node.wanted).unwrap() {
             Verdict::Holds(ones) | Verdict::Short(ones) => ones,
@@ -72,7 +72,7 @@ fn depth_of(plan: Plan, i: usize) -> u64
 {
     let mut at = i;
     for steps in 0..8 {
-        match plans::node_at(plan, at).parent {
+        match plans::node_at(&plan, at).parent {
             Parent::Supply(_) => return steps + 1,
             Parent::Node(h) => at = usize::from(h),
         }

@@ -7,32 +7,32 @@ use meaning::{Kind, SlotType};
 
 // Node i, or one of zeros past the array's end.
 #[tactic(auto, unfolding(crate::specs::Plan::node_at))]
-pub fn node_at(plan: Plan, i: usize) -> Node
-    ensures { result ≡ node_at plan i }
+pub fn node_at(plan: &Plan, i: usize) -> Node
+    ensures { result ≡ node_at plan.now i }
 {
     plan.nodes.get(i).copied().unwrap_or(ZERO_NODE)
 }
 
 // The type of supply i, or one of zeros past the array's end.
 #[tactic(auto, unfolding(crate::specs::Plan::supply_at))]
-pub fn supply_at(plan: Plan, i: usize) -> SlotType
-    ensures { result ≡ supply_at plan i }
+pub fn supply_at(plan: &Plan, i: usize) -> SlotType
+    ensures { result ≡ supply_at plan.now i }
 {
     plan.supplies.get(i).copied().unwrap_or(ZERO_TYPE)
 }
 
 // Whether node i is a virtual host.
 #[tactic(auto, unfolding(crate::specs::Plan::is_host, crate::specs::Plan::hosting))]
-pub fn is_host(plan: Plan, i: usize) -> bool
-    ensures { result ≡ is_host plan i }
+pub fn is_host(plan: &Plan, i: usize) -> bool
+    ensures { result ≡ is_host plan.now i }
 {
     node_at(plan, i).kind == NodeKind::Host
 }
 
 // Whether node i is soft: a leaf that may miss some of its windows.
 #[tactic(auto, unfolding(crate::specs::Plan::is_soft))]
-pub fn is_soft(plan: Plan, i: usize) -> bool
-    ensures { result ≡ is_soft plan i }
+pub fn is_soft(plan: &Plan, i: usize) -> bool
+    ensures { result ≡ is_soft plan.now i }
 {
     !is_host(plan, i) && 0 < node_at(plan, i).misses.d
 }
@@ -50,8 +50,8 @@ pub fn wanted_as(kind: NodeKind) -> Kind
 
 // The type that a parent has to give: a supply's, or a host's wanted type.
 #[tactic(auto, unfolding(crate::specs::Plan::own_type))]
-pub fn own_type(plan: Plan, x: Parent) -> SlotType
-    ensures { result ≡ own_type plan x }
+pub fn own_type(plan: &Plan, x: Parent) -> SlotType
+    ensures { result ≡ own_type plan.now x }
 {
     match x {
         Parent::Supply(s) => supply_at(plan, s.into()),

@@ -15,8 +15,8 @@ pub fn is_sound(plan: Plan) -> bool
         && is_count(plan.cores, 8)
         && is_count(plan.size, 64)
         && ticks::is_fit(plan.tick)
-        && are_supplies_sound(plan)
-        && are_nodes_sound(plan)
+        && are_supplies_sound(&plan)
+        && are_nodes_sound(&plan)
 }
 
 // Whether an edition is one that there is.
@@ -35,21 +35,21 @@ pub fn is_count(n: usize, most: usize) -> bool
     (1..=most).contains(&n)
 }
 
-fn are_supplies_sound(plan: Plan) -> bool
-    ensures { result ≡ all (sound_supply plan) plan.cores }
+fn are_supplies_sound(plan: &Plan) -> bool
+    ensures { result ≡ all (sound_supply plan.now) plan.now.cores }
 {
     (0..plan.cores).all(|s| meaning::is_well_formed(supply_at(plan, s)))
 }
 
-fn are_nodes_sound(plan: Plan) -> bool
-    ensures { result ≡ all (sound_node plan) plan.size }
+fn are_nodes_sound(plan: &Plan) -> bool
+    ensures { result ≡ all (sound_node plan.now) plan.now.size }
 {
     (0..plan.size).all(|i| is_node_sound(plan, i))
 }
 
 #[tactic(auto, unfolding(crate::specs::Sound::sound_node, crate::specs::Sound::sound_misses))]
-fn is_node_sound(plan: Plan, i: usize) -> bool
-    ensures { result ≡ sound_node plan i }
+fn is_node_sound(plan: &Plan, i: usize) -> bool
+    ensures { result ≡ sound_node plan.now i }
 {
     let node = node_at(plan, i);
     is_parent_allowed(plan, i)

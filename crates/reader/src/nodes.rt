@@ -59,9 +59,9 @@ impl<'a> File<'a> {
     {
         fields::is_there(self.bytes, k, 1)?;
         let named = decode::parent_named(fields::byte_at(self.bytes, k)).is_some();
-        let allowed = named && plans::is_parent_allowed(self.plan, i);
+        let allowed = named && plans::is_parent_allowed(&self.plan, i);
         answers::tested(allowed, Rule::Parent, k)?;
-        answers::tested(plans::is_within(self.plan, i), Rule::Depth, k)
+        answers::tested(plans::is_within(&self.plan, i), Rule::Depth, k)
     }
 
     // D and W of node i, where D begins at k in edition 2; edition 1 has none.
@@ -74,7 +74,7 @@ impl<'a> File<'a> {
         }
         fields::is_there(self.bytes, k, 2)?;
         fields::is_there(self.bytes, k + 2, 2)?;
-        let kind = plans::node_at(self.plan, i).kind;
+        let kind = plans::node_at(&self.plan, i).kind;
         let misses = fields::misses_at(self.bytes, k);
         answers::tested(plans::are_misses_borne(kind, misses), Rule::Misses, k)
     }

@@ -32,7 +32,7 @@ pub fn check(plan: Plan) -> Result<(), Refusal>
     if !plans::is_sound(plan) {
         return Err(Refusal::Unfit);
     }
-    nodes::check_nodes(plan)?;
+    nodes::check_nodes(&plan)?;
     let plan = SoundPlan { plan };
     plan.check_supplies()?;
     plan.check_hosts()

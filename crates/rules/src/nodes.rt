@@ -8,16 +8,16 @@ use meaning::Kind;
 use plans::{NodeKind, Plan};
 use types::Verdict;
 
-pub fn check_nodes(plan: Plan) -> Result<(), Refusal>
-    ensures { answered result ≡ each (node_alone plan) plan.size }
+pub fn check_nodes(plan: &Plan) -> Result<(), Refusal>
+    ensures { answered result ≡ each (node_alone plan.now) plan.now.size }
 {
     answers::each(plan.size, |i| check_node(plan, i))
 }
 
 // 20, and then 11.
 #[tactic(auto, using(answers::proofs::Laws::test_accepted), unfolding(crate::specs::Check::node_alone, crate::specs::Check::twenty_at, crate::specs::Check::eleven_at, answers::specs::Answers::first))]
-fn check_node(plan: Plan, i: usize) -> Result<(), Refusal>
-    ensures { answered result ≡ node_alone plan i }
+fn check_node(plan: &Plan, i: usize) -> Result<(), Refusal>
+    ensures { answered result ≡ node_alone plan.now i }
 {
     answers::tested(is_made(plan, i), Rule::Soft, i)?;
     answers::tested(is_met(plan, i), Rule::StandsIn, i)
@@ -25,8 +25,8 @@ fn check_node(plan: Plan, i: usize) -> Result<(), Refusal>
 
 // Whether node i is made as a soft leaf has to be, where it is one.
 #[tactic(auto, unfolding(crate::specs::Check::made, crate::specs::Check::aligns))]
-fn is_made(plan: Plan, i: usize) -> bool
-    ensures { result ≡ made plan i }
+fn is_made(plan: &Plan, i: usize) -> bool
+    ensures { result ≡ made plan.now i }
 {
     let node = plans::node_at(plan, i);
     !plans::is_soft(plan, i)
@@ -35,8 +35,8 @@ fn is_made(plan: Plan, i: usize) -> bool
 
 // Whether node i's served type stands in for its wanted one.
 #[tactic(auto, unfolding(crate::specs::Check::meets, crate::specs::Check::holding))]
-fn is_met(plan: Plan, i: usize) -> bool
-    ensures { result ≡ meets plan i }
+fn is_met(plan: &Plan, i: usize) -> bool
+    ensures { result ≡ meets plan.now i }
 {
     let node = plans::node_at(plan, i);
     if plans::is_soft(plan, i) {

@@ -1,9 +1,10 @@
 // Rules 12 and 13 under a parent, and all parents in their order.
-ghost use Rattle.std.specs.Prelude.{◌≡◌, true, ◌<◌};
+ghost use Rattle.std.specs.Prelude.{◌≡◌, true, ◌<◌, ◌||◌, ◌%◌, eqb};
 ghost use Rattle.answers.specs.Answers.{answered, each};
 ghost use Rattle.plans.specs.Plan.{is_child, served_of, own_type};
 ghost use Rattle.plans.specs.Sound.{all, sound};
 ghost use Rattle.rules.specs.Check.{alike, check_parent, check_supply, check_host, twelve_at, thirteen_at};
+ghost use Rattle.rules.specs.Fit.{is_whole};
 
 use crate::family::{Family, SoundPlan};
 use crate::loads::is_whole;
@@ -45,7 +46,7 @@ impl SoundPlan {
         requires { h < self.now.plan.size }
         ensures { answered result ≡ check_host self.now.plan h }
     {
-        if !plans::is_host(self.plan, h) {
+        if !plans::is_host(&self.plan, h) {
             return Ok(());
         }
         Family {
@@ -72,30 +73,38 @@ impl Family {
     pub fn has(&self, i: usize) -> bool
         ensures { result ≡ is_child self.now.plan self.now.parent i }
     {
-        plans::is_child(self.plan, self.parent, i)
+        plans::is_child(&self.plan, self.parent, i)
     }
 
     pub fn served(&self, i: usize) -> SlotType
         ensures { result ≡ served_of self.now.plan i }
     {
-        plans::node_at(self.plan, i).served
+        plans::node_at(&self.plan, i).served
     }
 
     // The type that the parent has to give.
     pub fn own(&self) -> SlotType
         ensures { result ≡ own_type self.now.plan self.now.parent }
     {
-        plans::own_type(self.plan, self.parent)
+        plans::own_type(&self.plan, self.parent)
     }
 
-    // Rule 12 at node i: a child's served period is a multiple of the parent's, where that is not whole.
-    #[tactic(auto, using(crate::proofs::Formed::formed_positive), unfolding(crate::specs::Check::twelve_at))]
+    // It is no child, or keeps rule 12.
+    #[tactic(auto, unfolding(crate::specs::Check::twelve_at))]
     fn twelve_at(&self, i: usize) -> Result<(), Refusal>
         ensures { answered result ≡ twelve_at self.now.plan self.now.parent i }
     {
+        answers::tested(!self.has(i) || self.is_multiple(i), Rule::Multiple, i)
+    }
+
+    // Rule 12 at node i: a child's served period is a multiple of the parent's, where that is not whole.
+    #[tactic(auto, using(crate::proofs::Formed::formed_positive))]
+    fn is_multiple(&self, i: usize) -> bool
+        ensures { result ≡ (is_whole (own_type self.now.plan self.now.parent) ||
+            eqb ((served_of self.now.plan i).t % (own_type self.now.plan self.now.parent).t) 0) }
+    {
         let own = self.own();
-        let kept = !self.has(i) || is_whole(own) || self.served(i).t % own.t == 0;
-        answers::tested(kept, Rule::Multiple, i)
+        is_whole(own) || self.served(i).t % own.t == 0
     }
 
     // Rule 13 at node i: it is no child, or at odds with no earlier one.
@@ -121,8 +130,11 @@ impl Family {
         requires { (i < self.now.plan.size) × (j < self.now.plan.size) }
         ensures { result ≡ alike self.now.plan self.now.parent i j }
     {
+        if !self.has(j) {
+            return true;
+        }
         let a = self.served(i).t;
         let b = self.served(j).t;
-        !self.has(j) || a % b == 0 || b % a == 0
+        a % b == 0 || b % a == 0
     }
 }

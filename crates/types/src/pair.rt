@@ -40,7 +40,8 @@ impl Pair {
         }
     }
 
-    // Whether the least ones of any wanted window are enough.
+    // Whether the least ones of any wanted window are enough. Inlined, since a call hands its pair on through memory.
+    #[inline(always)]
     #[tactic(auto, unfolding(crate::specs::Verdict::judged))]
     pub fn verdict(self) -> Verdict
         ensures { said (Ok result) ≡ judged self.gives self.giver self.wants self.wanted }

@@ -5,4 +5,4 @@ use Rattle.plans.proofs.All.{all_of_range}
 use Rattle.plans.proofs.soundness.are_nodes_sound.Goals as goal
 
 pub returns : goal.returns
-returns c = all_of_range (sound_node c.args.plan) c.args.plan.size c.all.ensures.ran refl (λ x b q k. search (rules, tests))
+returns c = all_of_range (sound_node c.args.plan.now) c.args.plan.now.size c.all.ensures.ran refl (λ x b q k. search (rules, tests))

@@ -6,4 +6,4 @@ use Rattle.plans.proofs.soundness.are_supplies_sound.Goals as goal
 
 pub returns : goal.returns
 unfolding sound_supply
-returns c = all_of_range (sound_supply c.args.plan) c.args.plan.cores c.all.ensures.ran refl (λ x b q k. search (rules, tests))
+returns c = all_of_range (sound_supply c.args.plan.now) c.args.plan.now.cores c.all.ensures.ran refl (λ x b q k. search (rules, tests))

@@ -14,11 +14,10 @@ use native.Mathlib.Omega.{arith}
 use Rattle.plans.proofs.Kept.{sound_kept}
 use Rattle.plans.proofs.Parents.{host_earlier}
 use Rattle.plans.specs.Plan.{parent_of, same}
+use Rattle.plans.specs.Sound.{sound}
 use Rattle.plans.specs.declared.Parent.{Parent}
 use Rattle.plans.specs.declared.Parent.TheVariants.{Supply, Node as Under}
 use Rattle.plans.specs.declared.Plan.{Plan}
-use Rattle.rules.specs.Check.{is_fit}
-use Rattle.dispatch.proofs.Refusals.{fits_sound}
 use Rattle.dispatch.proofs.Choices.{eligible_under, none_choice, some_choice}
 use Rattle.dispatch.proofs.Passing.{nobody_is, leaf_passed, host_kept, host_fixed}
 use Rattle.dispatch.specs.View.{View, view_of, bit_of, is_leaf}
@@ -128,9 +127,9 @@ module _ (plan : Plan) (left : List ℕ) (passed : ℕ → Bool) (takers i : ℕ
   host_added e host up here g l = bit_added takers host here g ∙ rw (up, e) (ap (λ c. bit_of takers g || c) (sym (equal_back host g)))
 
 -- a node's host has a bit in a word
-pub host_place : (plan : Plan) → is_fit plan ≡ true → (i : ℕ) → i < plan.size → (host : ℕ) → parent_of plan i ≡ Under host → host < 64
-host_place plan fit i l host up =
-    let so = sound_kept plan (fits_sound plan fit) in
+pub host_place : (plan : Plan) → sound plan ≡ true → (i : ℕ) → i < plan.size → (host : ℕ) → parent_of plan i ≡ Under host → host < 64
+host_place plan keeps i l host up =
+    let so = sound_kept plan keeps in
     let earlier = host_earlier plan so i l host up in
     omega (arith, so.sixty_four_nodes)
 
@@ -157,7 +156,7 @@ module _ (plan : Plan) (left : List ℕ) (declines : ℕ) where
         seen = λ h j l m n may. absurd (omega arith);
       }
 
-  module _ (fit : is_fit plan ≡ true) where
+  module _ (keeps : sound plan ≡ true) where
     -- a word that has seen every node behind node i tells whether i is passed over: a host's children are behind it
     told_right : (takers k i : ℕ) → Seen takers k → k ≤ suc i → i < plan.size → told (view_of plan) declines takers i ≡ passed i
     unfolding told passed_over
@@ -165,14 +164,14 @@ module _ (plan : Plan) (left : List ℕ) (declines : ℕ) where
       where
         none : bit_of takers i ≡ false → (j : ℕ) → j < plan.size → (b : Bool) → eligible (view_of plan) left passed (Under i) j ≡ b → b ≡ false
         none e j m true may =
-            let later = host_earlier plan (sound_kept plan (fits_sound plan fit)) j m i (eligible_under (view_of plan) left passed (Under i) j may) in
+            let later = host_earlier plan (sound_kept plan keeps) j m i (eligible_under (view_of plan) left passed (Under i) j may) in
             sym (so.seen i j there (omega arith) m may) ∙ e
         none e j m false may = refl
 
         at : is_leaf plan i ≡ false → (c : Bool) → bit_of takers i ≡ c → not c ≡ passed i
         at host true e = sym (so.right i there host e)
         at host false e =
-            sym (host_fixed plan (sound_kept plan (fits_sound plan fit)) left declines i there host ∙
+            sym (host_fixed plan (sound_kept plan keeps) left declines i there host ∙
             nobody_is _ (none_choice (view_of plan) left passed (Under i) (λ j m. none e j m (eligible (view_of plan) left passed (Under i) j) refl)))
 
         go : (b : Bool) → is_leaf plan i ≡ b → cond b (bit_of declines i) (not (bit_of takers i)) ≡ passed i
@@ -190,7 +189,7 @@ module _ (plan : Plan) (left : List ℕ) (declines : ℕ) where
     unfolding is_nobody
     some_kept h j l host m may =
         let (k, e) = some_choice (view_of plan) left passed (Under h) j m may in
-        host_fixed plan (sound_kept plan (fits_sound plan fit)) left declines h l host ∙ ap is_nobody e
+        host_fixed plan (sound_kept plan keeps) left declines h l host ∙ ap is_nobody e
 
     -- one node more
     pub seen_more : (takers k i : ℕ) → Seen takers k → k ≡ suc i → i < plan.size → (r : ℕ) →
@@ -205,7 +204,7 @@ module _ (plan : Plan) (left : List ℕ) (declines : ℕ) where
         so = rw at at before
 
         is : (h : ℕ) → h < plan.size → bit_of r h ≡ (bit_of takers h || eligible (view_of plan) left passed (Under h) i)
-        is h m = adds h (omega (arith, (sound_kept plan (fits_sound plan fit)).sixty_four_nodes)) ∙ ap (λ b. bit_of takers h || b) (told_may takers i so l (Under h))
+        is h m = adds h (omega (arith, (sound_kept plan keeps).sixty_four_nodes)) ∙ ap (λ b. bit_of takers h || b) (told_may takers i so l (Under h))
 
         right : (h : ℕ) → h < plan.size → is_leaf plan h ≡ false → (b : Bool) → bit_of takers h ≡ b →
             (b || eligible (view_of plan) left passed (Under h) i) ≡ true → passed h ≡ false

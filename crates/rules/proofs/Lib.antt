@@ -1,4 +1,5 @@
 pub mod Formed
+pub mod Owing
 pub mod Totals
 pub mod Sums
 pub mod Siblings

@@ -2,7 +2,19 @@
 use Prim.Native.Nat.{ℕ, ◌+◌, ◌-◌, ◌*◌, ◌/◌, ◌%◌, ◌≤◌, ◌<◌, min}
 use mathlib.Core.Bool.{true}
 use mathlib.Core.Path.{◌≡◌, ◌∙◌}
-use native.Mathlib.Nat.{add_assoc, div-mul-le_self, le_trans, lt-div-mul-add, pos_of_dvd_of_pos, zero-mul}
+use native.Mathlib.Nat.{
+  add_assoc,
+  div-mul-le_self,
+  le_of_dvd,
+  le_of_lt,
+  le_trans,
+  lt-div-mul-add,
+  mod-le,
+  mod-lt,
+  mul-le-mul_left,
+  pos_of_dvd_of_pos,
+  zero-mul,
+}
 use native.Mathlib.Omega.{arith}
 use Rattle.meaning.specs.Least.{lowest}
 use Rattle.meaning.specs.Types.{well_formed}
@@ -31,7 +43,11 @@ period_most a h = (bounds a h).most
 pub count_le : (a : SlotType) → well_formed a ≡ true → a.c ≤ a.t
 count_le a h = (bounds a h).fits
 
--- the three together
+-- an offset in a block is no longer than the block
+pub offset_le : (a : SlotType) (s : ℕ) → well_formed a ≡ true → s % a.t ≤ a.t
+offset_le a s h = le_of_lt (mod-lt s (period_positive a h))
+
+-- what a well-formed type keeps
 pub ruleset fits = (period_positive, period_most, count_le)
 
 -- the step from one wanted window to the next is at least one slot
@@ -62,10 +78,35 @@ module _
   pub parts_most : well_formed wanted ≡ true → b + (wanted.t - h) / giver.t * giver.c + e ≤ 4096
   parts_most w = le_trans (rw by_parts (ones_from_le giver wanted s)) (period_most wanted w)
 
+-- the sums on the way are small, whatever the window's first part: the whole blocks, these with the first part, and with the last
+module _ (giver wanted : SlotType) (h : ℕ) (g : well_formed giver ≡ true) (w : well_formed wanted ≡ true) where
+  pub blocks_small : (wanted.t - h) / giver.t * giver.c ≤ 4096
+  blocks_small =
+      omega (
+        arith,
+        period_most wanted w,
+        div-mul-le_self (wanted.t - h) giver.t,
+        mul-le-mul_left ((wanted.t - h) / giver.t) (count_le giver g),
+      )
+
+  module _ (x y b : ℕ) (first : h ≡ min wanted.t x) (before : b ≡ h - y) where
+    pub two_small : b + (wanted.t - h) / giver.t * giver.c ≤ 8192
+    two_small = omega (arith, period_most wanted w, blocks_small)
+
+    pub three_small : (z e : ℕ) → e ≡ (wanted.t - h) % giver.t - z → b + (wanted.t - h) / giver.t * giver.c + e ≤ 12288
+    three_small z e behind = omega (arith, period_most wanted w, mod-le (wanted.t - h) giver.t, two_small)
+
 module _ (giver : SlotType) (n d : ℕ) (g : well_formed giver ≡ true) (common : Common giver.t n d) where
   -- a common divisor is no zero divisor
   pub divisor_positive : 0 < d
   divisor_positive = pos_of_dvd_of_pos common.left (period_positive giver g)
+
+  -- and its multiples next to C are small
+  pub low_small : giver.c / d * d ≤ 4096
+  low_small = omega (arith, div-mul-le_self giver.c d, count_le giver g, period_most giver g)
+
+  pub high_small : giver.c / d * d + d ≤ 8192
+  high_small = omega (arith, low_small, le_of_dvd (period_positive giver g) common.left, period_most giver g)
 
   -- an aligned giver owes least at the last multiple of the divisor up to C or at the next one
   pub least_two

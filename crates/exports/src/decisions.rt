@@ -1,6 +1,5 @@
 // The decision on a pair of types, laid down in four numbers.
-ghost use Rattle.std.specs.Prelude.{◌≡◌, Ok, Err, Some, cond, leb};
-ghost use Rattle.std.specs.Result.{result_unwrap_or};
+ghost use Rattle.std.specs.Prelude.{◌≡◌, Ok, Err, Some, cond, leb, length};
 ghost use Rattle.types.specs.Decision as pairs;
 ghost use Rattle.exports.specs.Exports.{told, kind_numbered, deciding_by, deciding};
 
@@ -24,26 +23,30 @@ pub fn decide(
     lengths(answer.len() == 4)?;
     let gives = kind_of(gives, 0)?;
     let wants = kind_of(wants, 1)?;
-    answer.copy_from_slice(&numbers_of(types::decide(gives, giver, wants, wanted, out))?);
-    Ok(())
+    lay(types::decide(gives, giver, wants, wanted, out), answer)
 }
 
-// 1, the least ones, 0, 0 of a pair that holds; 0, the window's start, the ones there, the stretch's length of one that fails.
-fn numbers_of(decision: Decision) -> Result<[u32; 4], Refusal>
-    ensures { (lent : _) → (told result, result_unwrap_or result lent) ≡ deciding_by (pairs.said_of decision) lent }
+// 1, the least ones, 0, 0 of a pair that holds; 0, the window's start, the ones there, the stretch's length of one that fails. Each case stores its own four:
+// one store for both would be made of parts of them, and whoever reads the numbers next would wait.
+fn lay(decision: Decision, answer: &mut [u32]) -> Result<(), Refusal>
+    requires { length answer.old ≡ 4 }
+    ensures { (told result, answer.new) ≡ deciding_by (pairs.said_of decision) answer.old }
 {
     match decision {
-        Decision::Holds(least) => Ok([1, u32::from(least), 0, 0]),
+        Decision::Holds(least) => answer.copy_from_slice(&[1, u32::from(least), 0, 0]),
         Decision::Fails {
             start,
             ones,
             length,
-        } => Ok([0, start, u32::from(ones), length]),
-        Decision::Refused { number, place } => Err(Refusal {
-            number,
-            place: place.map(usize::from),
-        }),
+        } => answer.copy_from_slice(&[0, start, u32::from(ones), length]),
+        Decision::Refused { number, place } => {
+            return Err(Refusal {
+                number,
+                place: place.map(usize::from),
+            });
+        }
     }
+    Ok(())
 }
 
 // Kind 0 or 1, of the giver at place 0 or of the wanted type at place 1.

@@ -3,10 +3,13 @@
 // The definitions that the contracts cite are in specs/Parts.antt and specs/Digits.antt.
 #![tactic(auto)]
 
-ghost use Rattle.std.specs.Prelude.{◌≡◌, ◌++◌, ◌/◌, ◌<◌, min, leb, length, drop, position};
+ghost use Rattle.std.specs.Prelude.{◌≡◌, ◌++◌, ◌/◌, ◌<◌, ◌≤◌, min, leb, length, drop, position, IfOk};
 ghost use Rattle.std.specs.Iterator.{item_count, YieldsFirstRef};
 ghost use Rattle.lines.specs.Parts.{before, behind, lines_of};
 ghost use Rattle.lines.specs.Digits.{digit_of, longer_by, number_of, bytes_of};
+
+use std::io;
+use std::io::Read;
 
 // The lines of a text, from the first on.
 #[derive(Drop)]
@@ -86,4 +89,19 @@ pub fn bytes(word: &[u8], out: &mut [u8]) -> usize
         out[i] = digit(*high) * 16 + digit(*low);
     }
     count
+}
+
+// Reads until `room` is full or the input ends, and says how many bytes of it are filled.
+pub fn read_full(input: &mut impl Read, room: &mut [u8]) -> io::Result<usize>
+    ensures { IfOk result (λ n. n ≤ length room.new) }
+{
+    let mut done: usize = 0;
+    while done < room.len() {
+        let n = input.read(&mut room[done..])?;
+        if n == 0 {
+            break;
+        }
+        done += n;
+    }
+    Ok(done)
 }

@@ -1,5 +1,6 @@
 // Makes the calls of `dispatch` and prints their results.
 use crate::edits::Case;
+use crate::handed;
 use crate::inputs::Inputs;
 use crate::show::{Answers, Outcome, Standing};
 use std::io;
@@ -7,7 +8,7 @@ use std::io;
 pub fn fresh(rt: &impl Print, case: Case) -> io::Result<()> {
     let started = dispatch::fresh(case.plan);
     let outcome = Outcome(started.err());
-    let standing = Standing(started.unwrap_or(crate::ZERO_STATE), case.plan.size);
+    let standing = Standing(handed::state_of(started), case.plan.size);
     print!(rt; "{outcome}, {standing}")
 }
 
@@ -17,8 +18,8 @@ pub fn run(rt: &impl Print, mut case: Case, inputs: &Inputs, out: &mut [u8]) -> 
         inputs.setting(),
         case.plan,
         &mut case.state,
-        &inputs.supplies,
-        &inputs.declines,
+        inputs.supplies,
+        inputs.declines,
         out,
     );
     let outcome = Outcome(ran.err());
@@ -29,7 +30,7 @@ pub fn run(rt: &impl Print, mut case: Case, inputs: &Inputs, out: &mut [u8]) -> 
 
 // A step for each slot, each with a setting of its own and from the state that the one before left.
 pub fn steps(rt: &impl Print, mut case: Case, inputs: &Inputs) -> io::Result<()> {
-    for (i, (supplied, declines)) in inputs.supplies.iter().zip(&inputs.declines).enumerate() {
+    for (i, (supplied, declines)) in inputs.supplies.iter().zip(inputs.declines).enumerate() {
         let stepped = dispatch::step(
             inputs.setting_of(i),
             case.plan,
@@ -38,7 +39,7 @@ pub fn steps(rt: &impl Print, mut case: Case, inputs: &Inputs) -> io::Result<()>
             *declines,
         );
         let outcome = Outcome(stepped.err());
-        let grants = stepped.unwrap_or([255; 8]);
+        let grants = handed::grants_of(stepped);
         let answers = Answers(&grants, 8);
         print!(rt; "step {outcome}{answers}, ")?;
     }

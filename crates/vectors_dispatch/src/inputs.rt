@@ -1,32 +1,35 @@
 // What the words of a case's line hand to a call: settings, supply bytes, decline words and room.
+ghost use Rattle.std.specs.Prelude.{◌≤◌, length};
+
 use dispatch::Setting;
-use std::alloc::{AllocError, Global};
 
 #[derive(Drop)]
 pub struct Inputs<'a> {
     pub settings: &'a [u8],
-    pub supplies: Vec<u8>,
-    pub declines: Vec<u64>,
+    pub supplies: &'a [u8],
+    pub declines: &'a [u64],
     pub room: usize,
 }
 
 // At most so many supply bytes and decline words are looked at.
-const MOST: usize = 64;
+pub const MOST: usize = 64;
 
 impl<'a> Inputs<'a> {
-    // From the words, the first of which says what is done.
-    pub fn parse(alloc: Global, words: &'a [u8]) -> Result<Self, AllocError> {
+    // From the words, the first of which says what is done. `supplies` and `declines` are room for what is looked at.
+    pub fn parse(words: &'a [u8], supplies: &'a mut [u8], declines: &'a mut [u64]) -> Self {
         let (_, rest) = lines::cut(words, b' ');
         let (settings, rest) = lines::cut(rest, b' ');
-        let (supplies, rest) = lines::cut(rest, b' ');
-        let (declines, rest) = lines::cut(rest, b' ');
+        let (bytes, rest) = lines::cut(rest, b' ');
+        let (numbers, rest) = lines::cut(rest, b' ');
         let (room, _) = lines::cut(rest, b' ');
-        Ok(Inputs {
+        let n = lines::bytes(bytes, supplies);
+        let k = hex_words(numbers, declines);
+        Inputs {
             settings,
-            supplies: supplies_in(alloc, supplies)?,
-            declines: declines_in(alloc, declines)?,
+            supplies: &supplies[..n],
+            declines: &declines[..k],
             room: lines::number(room, 10) as usize,
-        })
+        }
     }
 
     // The setting of slot i, in a word with a digit for each: 0 off, 1 on.
@@ -44,17 +47,18 @@ fn on_if(is: bool) -> Setting {
     if is { Setting::On } else { Setting::Off }
 }
 
-fn supplies_in(alloc: Global, word: &[u8]) -> Result<Vec<u8>, AllocError> {
-    let mut bytes = [0; MOST];
-    let n = lines::bytes(word, &mut bytes);
-    bytes[..n].to_vec(alloc)
-}
-
-// The numbers that the word's hex digits spell, a comma between two: none for `-`.
-fn declines_in(alloc: Global, word: &[u8]) -> Result<Vec<u64>, AllocError> {
-    word.split(|c| *c <= b',')
-        .take_while(|digits| digits.first().is_some_and(|c| b'0' <= *c))
-        .take(MOST)
-        .map(|digits| lines::number(digits, 16))
-        .collect(alloc)
+// Puts the numbers that the word's hex digits spell, a comma between two, at the start of `out`, and says how many they are: none for `-`.
+fn hex_words(word: &[u8], out: &mut [u64]) -> usize
+    ensures { result ≤ length out.new }
+{
+    let mut rest = word;
+    for n in 0..out.len() {
+        if rest.first().is_none_or(|c| *c < b'0') {
+            return n;
+        }
+        let (digits, behind) = lines::cut(rest, b',');
+        out[n] = lines::number(digits, 16);
+        rest = behind;
+    }
+    out.len()
 }

@@ -5,37 +5,41 @@
 
 mod calls;
 mod edits;
+mod handed;
 mod inputs;
 mod leaves;
 mod mixed;
 mod show;
 
-use dispatch::State;
 use edits::Case;
-use inputs::Inputs;
+use inputs::{Inputs, MOST};
 use lines::Lines;
 use plans::Plan;
 use std::io;
-use std::io::Read;
 
 // So many bytes of the input are looked at.
-const LOOKED_AT: u64 = 524_288;
+const LOOKED_AT: usize = 524_288;
 
 fn main(rt: HostRuntime) -> io::Result<()> {
-    let mut input = Vec::new(rt.alloc());
-    rt.reader().take(LOOKED_AT).read_to_end(&mut input)?;
-    for line in Lines(&input) {
+    let mut input = room();
+    let n = lines::read_full(&mut rt.reader(), &mut input)?;
+    for line in Lines(&input[..n]) {
         one_case(&rt, line)?;
     }
     Ok(())
 }
 
+// A function of its own, since an array of this length is more than a proof of `main` bears.
+fn room() -> [u8; LOOKED_AT] {
+    [0; LOOKED_AT]
+}
+
 // The case of a line.
-fn one_case(rt: &(impl Print + AllocGlobal), line: &[u8]) -> io::Result<()> {
+fn one_case(rt: &impl Print, line: &[u8]) -> io::Result<()> {
     let (label, rest) = lines::cut(line, b' ');
     let (digits, rest) = lines::cut(rest, b' ');
     let plan = plan_of(digits);
-    let state = dispatch::fresh(plan).unwrap_or(ZERO_STATE);
+    let state = handed::state_of(dispatch::fresh(plan));
     let (case, words) = edits::edited(Case { plan, state }, rest);
     rt.write_all(label)?;
     print!(rt; ": ")?;
@@ -43,26 +47,24 @@ fn one_case(rt: &(impl Print + AllocGlobal), line: &[u8]) -> io::Result<()> {
     println!(rt; "")
 }
 
-// What stands for the state of a refused fresh start.
-const ZERO_STATE: State = State {
-    clock: 0,
-    left: [0; 64],
-};
-
 // The plan value of a word of hex digits, zeros where it is refused.
 fn plan_of(digits: &[u8]) -> Plan {
     let mut room = [0; 3072];
     let n = lines::bytes(digits, &mut room);
-    reader::read(&room[..n]).unwrap_or(plans::zero_plan())
+    handed::plan_of(&room[..n])
 }
 
 // Makes the call that the words ask for. For `mixed` and `demand`, the windows of each leaf are printed too.
-fn call(rt: &(impl Print + AllocGlobal), case: Case, words: &[u8]) -> io::Result<()> {
-    let inputs = Inputs::parse(rt.alloc(), words)?;
+fn call(rt: &impl Print, case: Case, words: &[u8]) -> io::Result<()> {
     let task = words.first();
+    if let Some(b'f') = task {
+        return calls::fresh(rt, case);
+    }
+    let mut supplies = [0; MOST];
+    let mut declines = [0; MOST];
+    let inputs = Inputs::parse(words, &mut supplies, &mut declines);
     let mut room = [show::UNANSWERED; 512];
     match task {
-        Some(b'f') => calls::fresh(rt, case),
         Some(b's') => calls::steps(rt, case, &inputs),
         _ => {
             let Some(out) = room.get_mut(..inputs.room) else {

@@ -3,8 +3,8 @@ ghost use Rattle.std.specs.Prelude.{◌<◌, ◌≤◌};
 
 use crate::edits::Case;
 use crate::inputs::Inputs;
-use crate::show;
 use crate::show::{Answers, Outcome, Standing};
+use crate::{handed, show};
 use dispatch::Setting;
 use std::io;
 
@@ -65,7 +65,7 @@ impl Stretch<'_> {
                 *declines,
             );
             let outcome = Outcome(stepped.err());
-            let grants = stepped.unwrap_or([255; 8]);
+            let grants = handed::grants_of(stepped);
             let n = out.len().min(case.plan.cores).min(8);
             out[..n].copy_from_slice(&grants[..n]);
             print!(rt; "step {setting} {outcome}, ")

@@ -1,4 +1,6 @@
 // Outcomes, states and answers as they are printed.
+ghost use Rattle.std.specs.Prelude.{◌≤◌};
+
 use dispatch::{Refusal, Setting, State};
 use std::fmt;
 
@@ -43,7 +45,9 @@ impl fmt::Display for Standing {
 }
 
 // Where the counts end that are not 0.
-fn end_of(left: &[u16; 64]) -> usize {
+fn end_of(left: &[u16; 64]) -> usize
+    ensures { result ≤ 64 }
+{
     left.iter().rposition(|n| *n != 0).map_or(0, |i| i + 1)
 }
 

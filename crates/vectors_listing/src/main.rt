@@ -7,18 +7,17 @@
 use lines::Lines;
 use listing::Short;
 use std::io;
-use std::io::Read;
 
 // So many bytes of the input are looked at.
-const LOOKED_AT: u64 = 65_536;
+const LOOKED_AT: usize = 65_536;
 
 // A byte that no listing has.
 const UNWRITTEN: u8 = 255;
 
 fn main(rt: HostRuntime) -> io::Result<()> {
-    let mut input = Vec::new(rt.alloc());
-    rt.reader().take(LOOKED_AT).read_to_end(&mut input)?;
-    for line in Lines(&input) {
+    let mut input = [0; LOOKED_AT];
+    let n = lines::read_full(&mut rt.reader(), &mut input)?;
+    for line in Lines(&input[..n]) {
         one_plan(&rt, line)?;
     }
     Ok(())

@@ -11,16 +11,15 @@ use runs::Runs;
 use said::{Decided, Judged};
 use sides::Side;
 use std::io;
-use std::io::Read;
 use types::Decision;
 
 // So many bytes of the input are looked at.
-const LOOKED_AT: u64 = 65_536;
+const LOOKED_AT: usize = 65_536;
 
 fn main(rt: HostRuntime) -> io::Result<()> {
-    let mut input = Vec::new(rt.alloc());
-    rt.reader().take(LOOKED_AT).read_to_end(&mut input)?;
-    for line in lines::Lines(&input) {
+    let mut input = [0; LOOKED_AT];
+    let n = lines::read_full(&mut rt.reader(), &mut input)?;
+    for line in lines::Lines(&input[..n]) {
         one_pair(&rt, line)?;
     }
     Ok(())

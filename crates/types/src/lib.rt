@@ -3,8 +3,9 @@
 // What the answers say is in specs/Verdict.antt and specs/Decision.antt, and what that means in specs/Promises.antt.
 #![tactic(auto)]
 
-ghost use Rattle.std.specs.Prelude.{◌≡◌, length};
-ghost use Rattle.types.specs.Verdict.{said, judged};
+ghost use Rattle.std.specs.Prelude.{◌≡◌, Err, length};
+ghost use Rattle.answers.specs.Answers.{at};
+ghost use Rattle.types.specs.Verdict.{said, refused, judged};
 ghost use Rattle.types.specs.Decision.{said_of, decided, out_after};
 
 mod pair;
@@ -26,6 +27,18 @@ pub enum Verdict {
 pub enum Refusal {
     Giver,
     Wanted,
+}
+
+impl Refusal {
+    // The number of the documents, and the place: 0 for the giver, 1 for the wanted type.
+    pub fn number_and_place(self) -> (u8, u8)
+        ensures { said (Err self) ≡ refused result.0 (at result.1) }
+    {
+        match self {
+            Refusal::Giver => (4, 0),
+            Refusal::Wanted => (4, 1),
+        }
+    }
 }
 
 // The verdict with the first window that falls short: its start, its ones, and the length of the stretch that was written. A refusal is one of the answers,
@@ -62,14 +75,13 @@ pub fn decide(
     ensures buffer { out.new ≡ out_after gives giver wants wanted out.old }
 {
     match Pair::new(gives, giver, wants, wanted) {
-        Err(Refusal::Giver) => Decision::Refused {
-            number: 4,
-            place: Some(0),
-        },
-        Err(Refusal::Wanted) => Decision::Refused {
-            number: 4,
-            place: Some(1),
-        },
+        Err(refusal) => {
+            let (number, place) = refusal.number_and_place();
+            Decision::Refused {
+                number,
+                place: Some(place),
+            }
+        }
         Ok(pair) => match pair.verdict() {
             Verdict::Holds(least) => Decision::Holds(least),
             Verdict::Short(_) => {

@@ -11,8 +11,10 @@ impl fmt::Display for Judged {
         match self.0 {
             Ok(Verdict::Holds(ones)) => write!(f, "holds {ones}"),
             Ok(Verdict::Short(ones)) => write!(f, "short {ones}"),
-            Err(Refusal::Giver) => write!(f, "refused 4 place 0"),
-            Err(Refusal::Wanted) => write!(f, "refused 4 place 1"),
+            Err(refusal) => {
+                let (number, place) = refusal.number_and_place();
+                write!(f, "refused {number} place {place}")
+            }
         }
     }
 }

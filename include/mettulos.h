@@ -33,8 +33,8 @@
  * Threads: the functions share nothing and keep nothing, neither memory nor locks, so any number of threads may call them at once, each with buffers of its
  * own; what is only read (bytes, a plan value, supplies, declines) may be the same for all.
  *
- * Stack, in bytes, as measured on plans of 64 nodes in eight levels and rounded up, not proved: a step and a run take 14,200, a read 13,700, a name 12,600, a
- * fresh start 9,500, a decision 300 (docs/PERFORMANCE.md says how it is measured); a slot time takes too little to show. No function takes memory in any other
+ * Stack, in bytes, as measured on plans of 64 nodes in eight levels and rounded up, not proved: a step takes 8,500, a run 7,400, a read 9,200, a name 8,100, a
+ * fresh start 6,200, a decision 330 (docs/PERFORMANCE.md says how it is measured); a slot time takes too little to show. No function takes memory in any other
  * way.
  *
  * What a call costs: every name reads and checks the whole plan anew, as a read does, so keep what it answers. Every fresh start, step and run checks the whole
